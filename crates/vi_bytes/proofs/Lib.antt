@@ -1,0 +1,4 @@
+pub mod FaultRecordLemmas
+pub mod PartLemmas
+pub mod PropertyLemmas
+pub mod SpanLemmas

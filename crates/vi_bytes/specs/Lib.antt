@@ -1,0 +1,5 @@
+pub mod Spans
+pub mod Parts
+pub mod Fields
+pub mod Properties
+pub mod FaultRecords

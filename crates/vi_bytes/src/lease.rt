@@ -1,0 +1,98 @@
+//! Translations: what a back end may keep of them, and the mappings that they come from.
+use crate::Span;
+use std::error::Error;
+use std::fmt;
+
+/// What an access does to the bytes at its address.
+#[derive(Clone, Copy, Debug, PartialEq, Eq)]
+pub enum Need {
+    Read,
+    Write,
+}
+
+/// A translation that a back end may cache: the pages `page` to `page + count - 1` go to the memory
+/// pages from `target` on, counted up alike. `count` is 1 to 16, and all pages of a lease have the
+/// same number divided by 16, rounded down. `perm` is 1 for reading, 2 for writing, 3 for both.
+#[derive(Clone, Copy, Debug, Default, PartialEq, Eq)]
+pub struct Lease {
+    pub page: u64,
+    pub count: u32,
+    pub target: u64,
+    pub perm: u8,
+}
+
+/// A mapping of a domain (Virtio 1.2, 5.13.6.5): the addresses of the span go to those from
+/// `target` on. `flags` are those of the MAP request: bit 0 permits reading and bit 1 writing.
+#[derive(Clone, Copy, Debug, PartialEq, Eq)]
+pub struct Mapping {
+    pub span: Span,
+    pub target: u64,
+    pub flags: u32,
+}
+
+/// A mapping was not added, because `met`, the lowest mapping that shares an address with it, is
+/// there.
+#[derive(Clone, Copy, Debug, PartialEq, Eq)]
+pub struct Over {
+    pub met: Mapping,
+}
+
+impl fmt::Display for Over {
+    fn fmt<W: fmt::Write>(&self, f: &mut fmt::Formatter<W>) -> fmt::Result {
+        let Span { first, last } = self.met.span;
+        write!(
+            f,
+            "shares addresses with the mapping of {first:#x} to {last:#x}"
+        )
+    }
+}
+
+impl Error for Over {}
+
+/// Nothing was unmapped, because `met`, the lowest such mapping, lies only in part in the span.
+#[derive(Clone, Copy, Debug, PartialEq, Eq)]
+pub struct Split {
+    pub met: Mapping,
+}
+
+impl fmt::Display for Split {
+    fn fmt<W: fmt::Write>(&self, f: &mut fmt::Formatter<W>) -> fmt::Result {
+        let Span { first, last } = self.met.span;
+        write!(
+            f,
+            "has only a part of the mapping of {first:#x} to {last:#x}"
+        )
+    }
+}
+
+impl Error for Split {}
+
+#[cfg(test)]
+mod tests {
+    use super::*;
+    use std::test::Fail;
+
+    #[test]
+    fn refusals_name_the_mapping(rt: HostRuntime) -> Result<(), Fail> {
+        let span = Span {
+            first: 0x1000,
+            last: 0x2fff,
+        };
+        let met = Mapping {
+            span,
+            target: 0,
+            flags: 3,
+        };
+        let over = format!(in rt.alloc(); "{}", Over { met })?;
+        assert_eq!(rt;
+            over.as_str(),
+            "shares addresses with the mapping of 0x1000 to 0x2fff"
+        );
+        let split = format!(in rt.alloc(); "{}", Split { met })?;
+        assert_eq!(rt;
+            split.as_str(),
+            "has only a part of the mapping of 0x1000 to 0x2fff"
+        );
+        Ok(())
+    }
+}
