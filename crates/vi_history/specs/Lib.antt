@@ -1,0 +1,11 @@
+pub mod Device
+pub mod Requests
+pub mod Statuses
+pub mod Effects
+pub mod Translation
+pub mod Replies
+pub mod Start
+pub mod Kinds
+pub mod Histories
+pub mod Records
+pub mod Outcomes
