@@ -1,0 +1,5 @@
+pub mod Texts
+pub mod Types
+pub mod Lines
+pub mod Reading
+pub mod Laws

@@ -1,0 +1,93 @@
+//! A report compared with its whole text.
+ghost use Rattle.std.specs.Prelude.{◌≡◌, ◌+◌, ◌≤◌, All, OnOk, vec_len};
+ghost use Rattle.vi_history.specs.Outcomes.{HasPart, HasBytes, IsEntry};
+
+use crate::{text, text_is_unambiguous};
+use std::alloc::{AllocError, Global};
+use std::test::Fail;
+use vi_bytes::{Bytes, Items};
+use vi_history::Caller::{Back, Driver};
+use vi_history::Kind::{Fault, Nothing, Probed, Read, Set, Status, Wrote};
+use vi_history::{Caller, Entry, Kind, Mark, Outcome, Shown};
+
+/// Adds an entry that is made as declared.
+fn add(
+    alloc: Global,
+    entries: &mut Vec<Entry>,
+    caller: Caller,
+    line: u32,
+    part: u32,
+    kind: Kind,
+    code: u8,
+    bytes: &[u8],
+) -> Result<(), AllocError>
+    requires part { HasPart caller part }
+    requires line { 1 ≤ line }
+    requires answer { HasBytes kind code bytes.now }
+    requires entries { All IsEntry entries.old.items }
+    ensures added { OnOk result (All IsEntry entries.new.items) }
+    ensures count { OnOk result (vec_len entries.new ≡ vec_len entries.old + 1) }
+{
+    let mark = Mark {
+        caller,
+        line,
+        part,
+        kind,
+        code,
+    };
+    let bytes = Bytes::of(alloc, bytes)?;
+    entries.push(Entry { mark, bytes })?;
+    Ok(())
+}
+
+#[test]
+fn prints_every_kind_of_answer(rt: HostRuntime) -> Result<(), Fail> {
+    let alloc = rt.alloc();
+    let mut probed = [0u8; 512];
+    probed[0] = 1;
+    probed[2] = 0x14;
+    probed[511] = 0xfe;
+    let mut all = Vec::new(alloc);
+    add(alloc, &mut all, Driver(0), 1, 0, Status, 0, b"")?;
+    add(alloc, &mut all, Driver(7), u32::MAX, 0, Probed, 6, &probed)?;
+    add(alloc, &mut all, Driver(3), 2, 0, Nothing, 0, b"")?;
+    add(alloc, &mut all, Driver(1), 10, 0, Set, 0, b"")?;
+    add(alloc, &mut all, Back(u32::MAX), 1, 1, Read, 0, b"\0abz\xff")?;
+    add(alloc, &mut all, Back(0), 1, 17, Wrote, 0, b"")?;
+    add(alloc, &mut all, Back(7), 2, 1, Fault, 2, b"")?;
+    let shown = Shown {
+        entry: 7,
+        bytes: [
+            2, 0, 0, 0, 2, 1, 0, 0, 7, 0, 0, 0, 0, 0, 0, 0, 4, 0x10, 0, 0, 0, 0, 0, 0,
+        ],
+    };
+    let outcome = Outcome {
+        entries: Items::from_vec(all),
+        shown: Items::from_vec(vec![in alloc; shown]?),
+        dropped: u32::MAX,
+    };
+    let want = format!(in alloc;
+        "viommu history 7\n\
+        1 d0.1 status 0\n\
+        2 d7.4294967295 probed 6 010014{:01016}fe\n\
+        3 d3.2 nothing\n\
+        4 d1.10 set\n\
+        5 b4294967295.1.1 read 0061627aff\n\
+        6 b0.1.17 wrote\n\
+        7 b7.2.1 fault 2\n\
+        faults 4294967296 shown 1 dropped 4294967295\n\
+        7 020000000201000007000000000000000410000000000000\n\
+        end\n",
+        0
+    )?;
+    assert_eq!(rt; text(alloc, &outcome)?.as_slice(), want.as_bytes());
+    let nothing = Outcome {
+        entries: Items::new(alloc),
+        shown: Items::new(alloc),
+        dropped: 0,
+    };
+    let want = b"viommu history 0\nfaults 0 shown 0 dropped 0\nend\n";
+    assert_eq!(rt; text(alloc, &nothing)?.as_slice(), want.as_slice());
+    text_is_unambiguous();
+    Ok(())
+}
