@@ -1,0 +1,4 @@
+pub mod Exact
+pub mod Zeros
+pub mod RequestLemmas
+pub mod ReadingLemmas

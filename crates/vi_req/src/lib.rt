@@ -1,0 +1,14 @@
+//! Requests to the IOMMU device (Virtio 1.2, 5.13.6) as bytes.
+#![tactic(auto)]
+
+mod encoding;
+pub mod laws;
+mod reading;
+mod refusal;
+
+pub use encoding::encode;
+pub use reading::decode;
+pub use refusal::ReqFault;
+
+#[cfg(test)]
+mod tests;
