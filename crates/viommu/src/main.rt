@@ -1,0 +1,44 @@
+//! The program `viommu`: a Virtio IOMMU device with caching back ends, run by scripts.
+#![tactic(auto)]
+
+mod command;
+mod deliver;
+mod input;
+mod list_sink;
+mod list_source;
+mod output;
+mod outside;
+mod run;
+mod standard;
+mod status;
+#[cfg(test)]
+mod tests;
+mod top;
+mod words;
+mod work;
+
+use standard::{Reading, Writing};
+use status::Status;
+use std::alloc::AllocError;
+use std::env;
+use std::process::ExitCode;
+use std::rt::Env;
+
+fn main(rt: HostRuntime) -> ExitCode {
+    let mut source = Reading::new(rt.stdin());
+    let mut sink = Writing::new(rt.stdout());
+    let status = match read_words(&rt) {
+        Ok(words) => top::plain_top(rt.alloc(), &words, &mut source, &mut sink),
+        Err(AllocError) => Status::OutOfMemory,
+    };
+    ExitCode::from(status.number())
+}
+
+/// The words behind the program's name. Where they can't be read as text there are none, and so
+/// they are no form of the command line.
+fn read_words(rt: &(impl Env + AllocGlobal)) -> Result<Vec<String>, AllocError> {
+    match env::args(rt) {
+        Ok(words) => words.skip(1).collect(rt.alloc()),
+        Err(_) => Ok(Vec::new(rt.alloc())),
+    }
+}

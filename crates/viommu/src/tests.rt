@@ -1,0 +1,243 @@
+//! What no clause says: calls with ample memory, faults in mid-stream, and the adapters.
+use crate::input::{InputFault, read_input};
+use crate::list_sink::ListSink;
+use crate::list_source::ListSource;
+use crate::output::write_text;
+use crate::standard::{Reading, Writing};
+use crate::status::Status;
+use crate::top::plain_top;
+use crate::words::number;
+use std::alloc::Global;
+use std::io::{self, Read, Write};
+use std::test::Fail;
+use vi_bytes::{Bytes, Items};
+use vi_script::BadKind;
+
+/// The words of a command line that is split at spaces.
+fn split(alloc: Global, line: &str) -> Result<Vec<String>, Fail> {
+    let mut words = Vec::new(alloc);
+    for word in line.split(' ') {
+        words.push(String::from_str(alloc, word)?)?;
+    }
+    Ok(words)
+}
+
+/// A driver maps a page, and a back end writes and reads through it.
+const FIRST: &[u8] = b"memory 1
+endpoint 7
+d0 attach 1 7
+d0 map 1 0x1000 0x1fff 0x0 rw
+b7 write 0x1000 61626364 after d0.2
+b7 read 0x1000 4
+";
+
+const FIRST_REPORT: &[u8] = b"viommu history 4
+1 d0.1 status 0
+2 d0.2 status 0
+3 b7.1.1 wrote
+4 b7.2.1 read 61626364
+faults 0 shown 0 dropped 0
+end
+";
+
+const EMPTY_REPORT: &[u8] = b"viommu history 0
+faults 0 shown 0 dropped 0
+end
+";
+
+/// A source of these bytes, and a sink with so much room, both with at most 16 bytes a call.
+fn outside(
+    alloc: Global,
+    input: &[u8],
+    read_fails: &[u32],
+    room: u32,
+    write_fails: &[u32],
+) -> Result<(ListSource, ListSink), Fail> {
+    let source = ListSource::new(Bytes::of(alloc, input)?, 16, Items::of(alloc, read_fails)?);
+    let sink = ListSink::with_room(alloc, room, 16, Items::of(alloc, write_fails)?)?;
+    Ok((source, sink))
+}
+
+/// What a call comes to: the status, and what the sink took.
+fn ran(
+    alloc: Global,
+    line: &str,
+    input: &[u8],
+    read_fails: &[u32],
+    room: u32,
+    write_fails: &[u32],
+) -> Result<(Status, Vec<u8>), Fail> {
+    let words = split(alloc, line)?;
+    let (mut source, mut sink) = outside(alloc, input, read_fails, room, write_fails)?;
+    let status = plain_top(alloc, &words, &mut source, &mut sink);
+    Ok((status, Vec::from_slice(alloc, sink.taken())?))
+}
+
+fn refused(line: u32) -> Status {
+    Status::BadScript {
+        line,
+        kind: BadKind::NotYet,
+    }
+}
+
+#[test]
+fn reports_and_refusals(rt: HostRuntime) -> Result<(), Fail> {
+    let alloc = rt.alloc();
+    let cases = [
+        // words, input, status, what the sink took
+        ("sim 0 0", FIRST, Status::Ok, FIRST_REPORT),
+        ("sim 0x0 00", b"", Status::Ok, EMPTY_REPORT),
+        (
+            "sim 0 0",
+            b"endpoint",
+            refused(1),
+            b"bad script line 1: notyet\n",
+        ),
+        ("sim 1 0", FIRST, Status::Usage, b"usage: viommu sim 0 0\n"),
+    ];
+    for (line, input, want, text) in cases {
+        let (status, taken) = ran(alloc, line, input, &[], 999, &[])?;
+        assert_eq!(rt; status, want, "{line}");
+        assert_eq!(rt; taken.as_slice(), text, "{line}");
+    }
+    Ok(())
+}
+
+#[test]
+fn too_long_input_is_refused(rt: HostRuntime) -> Result<(), Fail> {
+    let alloc = rt.alloc();
+    let input = vec![in alloc; b'#'; 1048577]?;
+    let (status, taken) = ran(alloc, "sim 0 0", &input, &[], 999, &[])?;
+    assert_eq!(rt; status, Status::TooLong);
+    assert_eq!(rt; taken.as_slice(), b"input too long\n".as_slice());
+    Ok(())
+}
+
+// The script has 117 bytes and the report 118: 8 pieces of 16 bytes each, and one read more finds the end.
+#[test]
+fn every_read_and_write_fails_once(rt: HostRuntime) -> Result<(), Fail> {
+    let alloc = rt.alloc();
+    for k in 1..11u32 {
+        let (status, taken) = ran(alloc, "sim 0 0", FIRST, &[k], 999, &[])?;
+        let want = if k < 10 {
+            Status::ReadFault
+        } else {
+            Status::Ok
+        };
+        assert_eq!(rt; status, want, "read {k}");
+        let text = if k < 10 { b"".as_slice() } else { FIRST_REPORT };
+        assert_eq!(rt; taken.as_slice(), text, "read {k}");
+    }
+    for k in 1..10u32 {
+        let (status, taken) = ran(alloc, "sim 0 0", FIRST, &[], 999, &[k])?;
+        let want = if k < 9 {
+            Status::WriteFault
+        } else {
+            Status::Ok
+        };
+        assert_eq!(rt; status, want, "write {k}");
+        let len = FIRST_REPORT.len().min(16 * (k as usize - 1));
+        assert_eq!(rt; taken.as_slice(), &FIRST_REPORT[..len], "write {k}");
+    }
+    Ok(())
+}
+
+#[test]
+fn numbers_in_words(rt: HostRuntime) {
+    let cases = [
+        ("0", Some(0)),
+        ("007", Some(7)),
+        ("18446744073709551615", Some(u64::MAX)),
+        ("18446744073709551616", None),
+        ("0x0", Some(0)),
+        ("0x1fF", Some(511)),
+        ("0xffffffffffffffff", Some(u64::MAX)),
+        ("0x10000000000000000", None),
+        ("", None),
+        ("0x", None),
+        ("0X1", None),
+        ("1f", None),
+        ("+1", None),
+        ("1 ", None),
+    ];
+    for (word, want) in cases {
+        assert_eq!(rt; number(word.as_bytes()), want, "at {word:?}");
+    }
+}
+
+#[test]
+fn status_numbers_and_texts(rt: HostRuntime) -> Result<(), Fail> {
+    let refused = Status::BadScript {
+        line: 10000,
+        kind: BadKind::NotYet,
+    };
+    let cases = [
+        (Status::Ok, 0, b"".as_slice()),
+        (Status::Usage, 2, b"usage: viommu sim 0 0\n"),
+        (refused, 3, b"bad script line 10000: notyet\n"),
+        (Status::TooLong, 4, b"input too long\n"),
+        (Status::ReadFault, 5, b""),
+        (Status::WriteFault, 6, b""),
+        (Status::OutOfMemory, 8, b""),
+        (Status::Spent, 9, b"spent\n"),
+    ];
+    for (status, number, text) in cases {
+        assert_eq!(rt; status.number(), number);
+        assert_eq!(rt; status.text(rt.alloc())?.as_slice(), text);
+    }
+    Ok(())
+}
+
+/// A stream that fails at every call.
+#[derive(Drop)]
+struct Broken;
+
+impl Read for Broken {
+    fn read(&mut self, _buf: &mut [u8]) -> io::Result<usize> {
+        Err(io::Error::from(io::ErrorKind::Other))
+    }
+}
+
+impl Write for Broken {
+    fn write(&mut self, _buf: &[u8]) -> io::Result<usize> {
+        Err(io::Error::from(io::ErrorKind::Other))
+    }
+
+    fn flush(&mut self) -> io::Result<()> {
+        Ok(())
+    }
+}
+
+/// A writer that takes nothing, and doesn't say that it failed.
+#[derive(Drop)]
+struct Stuck;
+
+impl Write for Stuck {
+    fn write(&mut self, _buf: &[u8]) -> io::Result<usize> {
+        Ok(0)
+    }
+
+    fn flush(&mut self) -> io::Result<()> {
+        Ok(())
+    }
+}
+
+#[test]
+fn readers_and_writers(rt: HostRuntime) -> Result<(), Fail> {
+    let alloc = rt.alloc();
+    let mut source = Reading::new(b"some bytes".as_slice());
+    assert_eq!(rt;
+        read_input(alloc, &mut source, 10)?.as_slice(),
+        b"some bytes".as_slice()
+    );
+    let fault = read_input(alloc, &mut Reading::new(Broken), 10).err();
+    assert!(rt; matches!(fault, Some(InputFault::ReadFault)));
+
+    let mut out = Vec::new(alloc);
+    write_text(&mut Writing::new(&mut out), b"some text")?;
+    assert_eq!(rt; out.as_slice(), b"some text".as_slice());
+    assert!(rt; write_text(&mut Writing::new(Broken), b"some text").is_err());
+    assert!(rt; write_text(&mut Writing::new(Stuck), b"some text").is_err());
+    assert!(rt; write_text(&mut Writing::new(Stuck), b"").is_ok());
+    Ok(())
+}
