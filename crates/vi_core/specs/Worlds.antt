@@ -29,7 +29,7 @@ back_is_finished s finished (Some id) = nat_le (length (lines_of s (Back id))) f
 abbrev pub is_finished : World → Bool
 is_finished w = nat_le (length (lines_of w.script (Driver 0))) w.finished && back_is_finished w.script w.back.finished w.back.endpoint
 
--- a turn keeps the script and the count of rounds
+-- a turn, and so any number of them, keeps the script and the count of rounds
 pub record IsOneTurn (old new : World) : Type 0 where
   pub script : script_of new ≡ script_of old
   pub rounds : rounds_of new ≡ rounds_of old

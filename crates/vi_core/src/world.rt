@@ -102,6 +102,16 @@ impl World {
         }
     }
 
+    /// Turns of these actors in order, which don't count as rounds. An error is want of memory.
+    pub fn run(&mut self, alloc: Global, turns: &[Who]) -> Result<(), AllocError>
+        ensures { OnOk result (IsOneTurn self.old self.new) }
+    {
+        for who in turns {
+            let _turned = self.turn(alloc, *who)?;
+        }
+        Ok(())
+    }
+
     /// One round: a turn of the driver, of the back end and of the device. An error is want of memory.
     pub fn round(&mut self, alloc: Global) -> Result<(), AllocError>
         ensures { OnOk result (IsOneRound self.old self.new) }
@@ -309,6 +319,7 @@ b7 read 0x1000 2 after d0.2
 b7 write 0x1004 01";
         let mut world = World::build(alloc, vi_script::parse(alloc, text)?)?;
         assert_eq!(rt; world.turn(alloc, Who::Back(7))?, Turned::Waiting);
+        world.run(alloc, &[Who::Driver(0), Who::Device])?;
         for _round in 0..20 {
             world.round(alloc)?;
         }
