@@ -2,3 +2,4 @@ pub mod FaultRecordLemmas
 pub mod PartLemmas
 pub mod PropertyLemmas
 pub mod SpanLemmas
+pub mod LeaseLemmas

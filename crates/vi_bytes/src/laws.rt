@@ -1,11 +1,13 @@
 //! Laws of the layouts and cuts that this crate defines, each as the contract of a function that
-//! does nothing: what the tests of spans mean, that parts make up their transfer, and that bytes
-//! are read back.
+//! does nothing: what the tests of spans and leases mean, that parts make up their transfer, and
+//! that bytes are read back.
 ghost use Rattle.std.specs.Prelude.{◌≡◌, ℕ, ◌/◌, ◌^◌, ◌≤◌, ◌<◌, ◌↔◌, All, IsTrue, List, length};
 ghost use Rattle.vi_bytes.specs.declared.lease.Need.{Need};
 ghost use Rattle.vi_bytes.specs.declared.region.Region.{Region};
 ghost use Rattle.vi_bytes.specs.declared.span.Span.{Span};
 ghost use Rattle.vi_bytes.specs.FaultRecords.{fault_record, IsFaultRecord};
+ghost use Rattle.vi_bytes.specs.Leases.{IsLease, HasPage, SharePage, ReachesInto, has_page, share_page, reaches_into};
+ghost use Rattle.vi_bytes.specs.declared.lease.Lease.{Lease};
 ghost use Rattle.vi_bytes.specs.Parts.{IsTransfer, IsIn, PartsJoin};
 ghost use Rattle.vi_bytes.specs.Properties.{Properties, Regions, ReadsFrom, property_bytes};
 ghost use Rattle.vi_bytes.specs.Spans.{IsProper, Has, Meets, Covers, has, meets, covers};
@@ -15,6 +17,13 @@ pub fn span_tests()
     ensures has { (s : Span) (address : ℕ) → IsTrue (has s address) ↔ Has s address }
     ensures meets { (s t : Span) → IsProper s → IsProper t → IsTrue (meets s t) ↔ Meets s t }
     ensures covers { (s t : Span) → IsProper t → IsTrue (covers s t) ↔ Covers s t }
+{}
+
+/// Each test of leases is true exactly where what it tests holds.
+pub fn lease_tests()
+    ensures has_page { (l : Lease) (page : ℕ) → IsTrue (has_page l page) ↔ HasPage l page }
+    ensures share_page { (l k : Lease) → IsLease l → IsLease k → IsTrue (share_page l k) ↔ SharePage l k }
+    ensures reaches_into { (l : Lease) (s : Span) → IsLease l → IsProper s → IsTrue (reaches_into l s) ↔ ReachesInto l s }
 {}
 
 /// The parts of a transfer are its bytes in order, a page at a time, and its pages are below 2^52.

@@ -1,5 +1,9 @@
 //! Translations: what a back end may keep of them, and the mappings that they come from.
-use crate::Span;
+ghost use Rattle.std.specs.Prelude.{IsTrue, ◌↔◌, ◌≡◌, ◌+◌, ◌-◌};
+ghost use Rattle.vi_bytes.specs.Spans.{IsProper};
+ghost use Rattle.vi_bytes.specs.Leases.{IsLease, HasPage, SharePage, ReachesInto, has_page, share_page, reaches_into};
+
+use crate::{Span, page_of};
 use std::error::Error;
 use std::fmt;
 
@@ -19,6 +23,44 @@ pub struct Lease {
     pub count: u32,
     pub target: u64,
     pub perm: u8,
+}
+
+impl Lease {
+    /// Whether the page is one of the lease's.
+    pub fn has_page(&self, page: u64) -> bool
+        ensures within { IsTrue result ↔ HasPage self.now page }
+        ensures test { result ≡ has_page self.now page }
+    {
+        self.page <= page && page - self.page < u64::from(self.count)
+    }
+
+    /// Whether a page is in both leases.
+    pub fn shares_page(&self, other: &Lease) -> bool
+        requires lease { IsLease self.now }
+        requires other_lease { IsLease other.now }
+        ensures shares { IsTrue result ↔ SharePage self.now other.now }
+        ensures test { result ≡ share_page self.now other.now }
+    {
+        self.has_page(other.page) || other.has_page(self.page)
+    }
+
+    /// The last page of the lease.
+    pub fn last_page(&self) -> u64
+        requires lease { IsLease self.now }
+        ensures { result ≡ self.now.page + self.now.count - 1 }
+    {
+        self.page + u64::from(self.count - 1)
+    }
+
+    /// Whether a page of the lease has an address of the span.
+    pub fn meets(&self, span: &Span) -> bool
+        requires lease { IsLease self.now }
+        requires proper { IsProper span.now }
+        ensures reaches { IsTrue result ↔ ReachesInto self.now span.now }
+        ensures test { result ≡ reaches_into self.now span.now }
+    {
+        self.page <= page_of(span.last) && page_of(span.first) <= self.last_page()
+    }
 }
 
 /// A mapping of a domain (Virtio 1.2, 5.13.6.5): the addresses of the span go to those from
@@ -71,6 +113,26 @@ impl Error for Split {}
 mod tests {
     use super::*;
     use std::test::Fail;
+
+    #[test]
+    fn leases_go_by_whole_pages(rt: HostRuntime) -> Result<(), Fail> {
+        let lease = Lease {
+            page: 14,
+            count: 2,
+            target: 0,
+            perm: 3,
+        };
+        let next = Lease { page: 16, ..lease };
+        assert!(rt; lease.has_page(15));
+        assert!(rt; !lease.has_page(16));
+        assert!(rt; !lease.shares_page(&next));
+        assert_eq!(rt; lease.last_page(), 15);
+        let below = Span::new(0, 0xdfff).ok_or("a span")?;
+        let end = Span::new(0xffff, 0xffff).ok_or("a span")?;
+        assert!(rt; !lease.meets(&below));
+        assert!(rt; lease.meets(&end));
+        Ok(())
+    }
 
     #[test]
     fn refusals_name_the_mapping(rt: HostRuntime) -> Result<(), Fail> {

@@ -1,7 +1,7 @@
 -- What a request with status OK makes of the device (Virtio 1.2, 5.13.6.3 to 5.13.6.7).
-use Rattle.std.specs.Prelude.{◌≡◌, ◌==◌, ℕ, Bool, true, false, not, nat_lt, if◌then◌else◌, List, [], ◌∷◌, ◌++◌, Option, Some, None, map, filter}
+use Rattle.std.specs.Prelude.{◌≡◌, ◌==◌, ℕ, Bool, true, false, if◌then◌else◌, List, [], ◌∷◌, ◌++◌, Option, Some, None, map, filter}
 use Rattle.std.specs.List.{list_any}
-use Rattle.vi_bytes.specs.Spans.{covers}
+use Rattle.vi_bytes.specs.Mappings.{with_mapping, without_span}
 use Rattle.vi_bytes.specs.declared.span.Span.{Span}
 use Rattle.vi_bytes.specs.declared.lease.Mapping.{Mapping}
 use Rattle.vi_bytes.specs.declared.region.Membership.{Membership}
@@ -32,15 +32,6 @@ inhabited endpoints domains = filter (λ y. is_inhabited endpoints y.id) domains
 abbrev pub with_domain : ℕ → Bool → List Domain → Option Domain → List Domain
 with_domain id bypass domains None = domains ++ record { id = id; bypass = bypass; mappings = [] } ∷ []
 with_domain id bypass domains (Some y) = domains
-
--- the mappings with one more, by rising address
-abbrev pub with_mapping : Mapping → List Mapping → List Mapping
-with_mapping m [] = m ∷ []
-with_mapping m (x ∷ xs) = if nat_lt m.span.first x.span.first then m ∷ x ∷ xs else x ∷ with_mapping m xs
-
--- the mappings that don't lie in the span
-abbrev pub without_span : Span → List Mapping → List Mapping
-without_span span mappings = filter (λ m. not (covers span m.span)) mappings
 
 -- a domain, its mappings changed so if it has this id
 abbrev pub changed_if : ℕ → (List Mapping → List Mapping) → Domain → Domain
