@@ -42,3 +42,8 @@ within_span span mappings = filter (λ m. covers span m.span) mappings
 
 abbrev pub without_span : Span → List Mapping → List Mapping
 without_span span mappings = filter (λ m. not (covers span m.span)) mappings
+
+-- what a domain's mappings are kept as: the list, and for how many more there is room
+pub record MappingSet : Type 0 where
+  pub mappings : List Mapping
+  pub spare : ℕ
