@@ -1,8 +1,7 @@
 -- What a request with status OK makes of the device (Virtio 1.2, 5.13.6.3 to 5.13.6.7).
-use Rattle.std.specs.Prelude.{◌≡◌, ◌==◌, ℕ, Bool, true, false, if◌then◌else◌, List, [], ◌∷◌, ◌++◌, Option, Some, None, map, filter}
+use Rattle.std.specs.Prelude.{◌==◌, ℕ, Bool, false, if◌then◌else◌, List, [], ◌∷◌, ◌++◌, Option, Some, None, map, filter}
 use Rattle.std.specs.List.{list_any}
 use Rattle.vi_bytes.specs.Mappings.{with_mapping, without_span}
-use Rattle.vi_bytes.specs.declared.span.Span.{Span}
 use Rattle.vi_bytes.specs.declared.lease.Mapping.{Mapping}
 use Rattle.vi_bytes.specs.declared.region.Membership.{Membership}
 use Rattle.vi_bytes.specs.declared.region.Membership.TheVariants.{Unattached, Member}

@@ -1,5 +1,5 @@
 -- Legal histories: each call is answered as the one-thread device answers it at that place.
-use Rattle.std.specs.Prelude.{◌≡◌, ℕ, List, [], ◌∷◌}
+use Rattle.std.specs.Prelude.{◌≡◌, List, [], ◌∷◌}
 use Rattle.vi_history.specs.Device.{One}
 use Rattle.vi_history.specs.Replies.{Answer, reply, next}
 use Rattle.vi_history.specs.declared.call.Call.{Call}

@@ -9,3 +9,4 @@ pub mod Kinds
 pub mod Histories
 pub mod Records
 pub mod Outcomes
+pub mod Runs

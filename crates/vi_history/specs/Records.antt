@@ -1,13 +1,11 @@
 -- Fault records: which entries have one, and which were delivered (Virtio 1.2, 5.13.6.9).
-use Rattle.std.specs.Prelude.{◌≡◌, ℕ, ◌+◌, Bool, true, false, if◌then◌else◌, List, [], ◌∷◌, ◌++◌, ◌⊎◌, length, take, All, Contains}
+use Rattle.std.specs.Prelude.{◌≡◌, ℕ, ◌+◌, if◌then◌else◌, List, [], ◌∷◌, ◌++◌, ◌⊎◌, length, take, All, Contains}
 use Rattle.vi_history.specs.Kinds.{is_fault}
 use Rattle.vi_bytes.specs.FaultRecords.{fault_record}
-use Rattle.vi_bytes.specs.declared.part.Part.{Part}
 use Rattle.vi_bytes.specs.declared.lease.Need.TheVariants as need
 use Rattle.vi_history.specs.declared.call.Call.{Call}
 use Rattle.vi_history.specs.declared.call.Call.TheVariants.{Ask, Raw, Bypass, Read, Write}
 use Rattle.vi_history.specs.declared.entry.Entry.{Entry}
-use Rattle.vi_history.specs.declared.entry.Mark.{Mark}
 use Rattle.vi_history.specs.declared.entry.Kind.{Kind}
 use Rattle.vi_history.specs.declared.outcome.Shown.{Shown}
 

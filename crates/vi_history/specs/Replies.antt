@@ -1,9 +1,8 @@
 -- What the one-thread device replies to a call, and what it is afterwards. It looks a mapping up at every
 -- access, and knows no cache, message, lock or thread.
-use Rattle.std.specs.Prelude.{◌≡◌, ◌==◌, ℕ, ◌+◌, ◌/◌, ◌%◌, Bool, true, false, if◌then◌else◌, List, [], ◌++◌, length, take, drop, replicate, Option, Some, None, get_or, set}
+use Rattle.std.specs.Prelude.{ℕ, ◌+◌, ◌/◌, ◌%◌, if◌then◌else◌, List, [], ◌++◌, length, take, drop, replicate, Option, Some, None, get_or, set}
 use Rattle.vi_bytes.specs.Properties.{property_bytes}
 use Rattle.vi_bytes.specs.declared.span.TheConstants.{PAGE}
-use Rattle.vi_bytes.specs.declared.part.Part.{Part}
 use Rattle.vi_bytes.specs.declared.lease.Need.TheVariants as need
 use Rattle.vi_history.specs.Device.{Dev, One, Endpoint, endpoint_of}
 use Rattle.vi_history.specs.Requests.{Reading, Silent, Malformed, Asks, reading}

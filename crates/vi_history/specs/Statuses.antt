@@ -1,5 +1,5 @@
 -- The status of a request, by the rules that are tried in order (Virtio 1.2, 5.13.6.3 to 5.13.6.7).
-use Rattle.std.specs.Prelude.{◌≡◌, ◌==◌, ℕ, ◌+◌, ◌-◌, ◌%◌, ◌^◌, Bool, true, false, not, ◌&&◌, ◌||◌, nat_lt, nat_le, if◌then◌else◌, List, Option, Some, None}
+use Rattle.std.specs.Prelude.{◌==◌, ℕ, ◌+◌, ◌-◌, ◌%◌, ◌^◌, Bool, true, false, not, ◌&&◌, nat_lt, nat_le, if◌then◌else◌, List, Option, Some, None}
 use Rattle.std.specs.List.{list_any}
 use Rattle.vi_bytes.specs.Spans.{meets, covers}
 use Rattle.vi_bytes.specs.declared.span.Span.{Span}

@@ -1,5 +1,5 @@
 -- Where an address of an endpoint leads (Virtio 1.2, 5.13.2 and 5.13.6.9).
-use Rattle.std.specs.Prelude.{◌≡◌, ◌==◌, ℕ, ◌+◌, ◌-◌, ◌*◌, ◌/◌, ◌%◌, Bool, true, false, not, ◌&&◌, nat_lt, if◌then◌else◌, List, Option, Some, None, find}
+use Rattle.std.specs.Prelude.{◌==◌, ℕ, ◌+◌, ◌-◌, ◌*◌, ◌/◌, ◌%◌, Bool, not, ◌&&◌, nat_lt, if◌then◌else◌, List, Option, Some, None, find}
 use Rattle.std.specs.List.{list_any}
 use Rattle.vi_bytes.specs.Spans.{has}
 use Rattle.vi_bytes.specs.declared.span.TheConstants.{PAGE}
