@@ -1,0 +1,9 @@
+//! The addresses that endpoints keep to themselves.
+#![tactic(auto)]
+
+mod reserved;
+
+pub use reserved::Reserved;
+
+#[cfg(test)]
+mod tests;
