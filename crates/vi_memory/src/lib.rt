@@ -1,0 +1,9 @@
+//! The memory that transfers reach, page by page.
+#![tactic(auto)]
+
+mod page;
+
+pub use page::Page;
+
+#[cfg(test)]
+mod tests;
