@@ -1,0 +1,13 @@
+pub mod Layout
+pub mod Writes
+pub mod Shown
+pub mod Parts
+pub mod Device
+pub mod Notes
+pub mod Driver
+pub mod Reads
+pub mod Values
+pub mod Moves
+pub mod Tied
+pub mod Inner
+pub mod Lending
