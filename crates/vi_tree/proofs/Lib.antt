@@ -1,0 +1,11 @@
+pub mod ShapeLemmas
+pub mod ListLemmas
+pub mod MoveLemmas
+pub mod HeldLemmas
+pub mod PathLemmas
+pub mod RemoveLemmas
+pub mod LevelLemmas
+pub mod SearchLemmas
+pub mod TreeLemmas
+pub mod UnmapLemmas
+pub mod RoomLemmas

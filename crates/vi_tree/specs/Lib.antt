@@ -1,0 +1,4 @@
+pub mod Shapes
+pub mod Moves
+pub mod Held
+pub mod Trees
