@@ -1,12 +1,11 @@
 mod Examples
 pub mod IndexLemmas
-pub mod WordLemmas
-pub mod NumberLemmas
-pub mod HexLemmas
 pub mod ReadLemmas
-pub mod StatementLemmas
+pub mod NameLemmas
 pub mod TallyLemmas
-pub mod DraftLemmas
-pub mod CapLemmas
 pub mod ReadingLemmas
-pub mod MadeLemmas
+pub mod FormLemmas
+pub mod ValidLemmas
+pub mod SoundLemmas
+pub mod TransferLemmas
+pub mod BuiltLemmas

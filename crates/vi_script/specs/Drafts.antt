@@ -1,54 +1,52 @@
--- Scripts being read: what a statement is judged to be by what is said above it.
-use Rattle.std.specs.Prelude.{◌≡◌, ℕ, ◌≤◌, Bool, true, false, nat_lt, List, length, take, Some, None, IfSome, All, Result, Ok, Err, slice_get}
-use Rattle.std.specs.List.{list_all}
+-- Settings as the reader of a text keeps them.
+use Rattle.std.specs.Prelude.{ℕ, Bool, true, false, is_some, List, Some, unwrap_or}
 use Rattle.vi_bytes.specs.declared.region.EndpointSetup.{EndpointSetup}
-use Rattle.vi_script.specs.declared.line.Line.{Line}
-use Rattle.vi_script.specs.declared.fault.Refusal.{Refusal}
-use Rattle.vi_script.specs.declared.fault.Refusal.TheVariants as refusal
-use Rattle.vi_script.specs.declared.fault.BadKind.TheVariants as bad
-use Rattle.vi_script.specs.declared.draft.Draft.TheInside.{Inside}
-use Rattle.vi_script.specs.Calls.{TransfersWell}
-use Rattle.vi_script.specs.Statements.{Statement}
-use Rattle.vi_script.specs.Said.{Said, says}
-use Rattle.vi_script.specs.Tallies.{have_callers}
-use Rattle.vi_script.specs.Texts.{takes_line, is_taken}
+use Rattle.vi_history.specs.declared.setup.Setup.{Setup}
+use Rattle.vi_script.specs.declared.form.Setting.{Setting}
+use Rattle.vi_script.specs.declared.form.Setting.TheVariants as setting
+use Rattle.vi_script.specs.declared.form.Switch.{Switch}
+use Rattle.vi_script.specs.declared.form.Switch.TheVariants as switch
+use Rattle.vi_script.specs.declared.settings.Settings.{Settings}
+use Rattle.vi_script.specs.Limits.{is_memory, is_queue, is_cache, is_granule}
 
--- the refusal comes from what isn't taken, or from want of memory
-abbrev pub Declines : Refusal → Bool → Type 0
-Declines (refusal.Bad kind) taken = (kind ≡ bad.NotYet) × (taken ≡ false)
-Declines refusal.OutOfMemory taken = Unit {0}
+-- a setting was given
+abbrev pub is_set : Setting → Settings → Bool
+is_set setting.Memory s = is_some s.memory
+is_set setting.Queue s = is_some s.queue
+is_set setting.Cache s = is_some s.cache
+is_set setting.Granule s = is_some s.granule
 
--- what is taken gives this value, and what isn't is refused
-abbrev pub Judges : {V : Type 0} → Bool → V → Result V Refusal → Type 0
-Judges taken value (Ok x) = (taken ≡ true) × (x ≡ value)
-Judges taken value (Err refusal) = Declines refusal taken
+abbrev pub is_switched : Switch → Settings → Bool
+is_switched switch.Bypass s = is_some s.bypass
+is_switched switch.Events s = is_some s.events
 
--- a statement is taken behind what was said, or refused
-abbrev pub Takes : Said → Statement → Result Said Refusal → Type 0
-Takes above statement result = Judges (is_taken above statement) (says above statement) result
+-- a number is within its limits
+abbrev pub setting_fits : Setting → ℕ → Bool
+setting_fits setting.Memory n = is_memory n
+setting_fits setting.Queue n = is_queue n
+setting_fits setting.Cache n = is_cache n
+setting_fits setting.Granule n = is_granule n
 
--- what stands above the line at this place, counted from 0
-abbrev pub said_above : List EndpointSetup → List Line → ℕ → Said
-said_above endpoints lines place = record { memory = None; endpoints = endpoints; lines = take place lines }
+-- one more setting
+abbrev pub with_number : Setting → ℕ → Settings → Settings
+with_number setting.Memory n s = record s { memory = Some n }
+with_number setting.Queue n s = record s { queue = Some n }
+with_number setting.Cache n s = record s { cache = Some n }
+with_number setting.Granule n s = record s { granule = Some n }
 
--- each line is taken below those above it
-abbrev pub AreTaken : List EndpointSetup → List Line → Type 0
-AreTaken endpoints lines = (place : ℕ) (l : Line) → slice_get lines place ≡ Some l → takes_line (said_above endpoints lines place) l ≡ true
+abbrev pub with_switch : Switch → Bool → Settings → Settings
+with_switch switch.Bypass on s = record s { bypass = Some on }
+with_switch switch.Events on s = record s { events = Some on }
 
--- the endpoints have ids of 32 bits
-abbrev pub have_ids : List EndpointSetup → Bool
-have_ids endpoints = list_all (λ e. nat_lt e.id 4294967296) endpoints
-
--- a size of memory in pages
-abbrev pub IsMemory : ℕ → Type 0
-IsMemory pages = (1 ≤ pages) × (pages ≤ 16384)
-
--- what was said was taken statement by statement
-pub record IsDraft (d : Inside) : Type 0 where
-  pub memory : IfSome d.memory IsMemory
-  pub endpoints : length d.endpoints.items ≤ 1
-  pub ids : have_ids d.endpoints.items ≡ true
-  pub callers : have_callers d.lines ≡ true
-  pub few : length d.lines ≤ 10000
-  pub transfers : All (λ l. TransfersWell l.job) d.lines
-  pub taken : AreTaken d.endpoints.items d.lines
+-- the setup of settings and endpoints
+abbrev pub setup_with : Settings → List EndpointSetup → Setup
+setup_with s endpoints = record {
+  memory = unwrap_or s.memory 16;
+  queue = unwrap_or s.queue 16;
+  cache = unwrap_or s.cache 8;
+  granule = unwrap_or s.granule 4096;
+  input = unwrap_or s.input (record { first = 0; last = 18446744073709551615 });
+  bypass = unwrap_or s.bypass false;
+  events = unwrap_or s.events true;
+  endpoints = endpoints;
+}

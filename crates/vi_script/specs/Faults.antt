@@ -1,8 +1,6 @@
--- The texts of refusals, and what reading a part of a line gives.
+-- The texts of refusals, and what reading a part of a text gives.
 use Rattle.std.specs.Prelude.{◌≡◌, ℕ, List, ◌++◌, Option, Some, None, Result, Ok, Err, codes}
 use Rattle.std.specs.Fmt.{decimal}
-use Rattle.hex.specs.declared.error.FromHexError.{FromHexError}
-use Rattle.hex.specs.declared.error.FromHexError.TheVariants as hex
 use Rattle.vi_script.specs.declared.fault.BadKind.{BadKind}
 use Rattle.vi_script.specs.declared.fault.BadKind.TheVariants as bad
 use Rattle.vi_script.specs.declared.fault.ScriptFault.{ScriptFault}
@@ -30,20 +28,18 @@ abbrev pub fault_text : ScriptFault → List ℕ
 fault_text (fault.Bad line kind) = codes "bad script line " ++ decimal line ++ codes ": " ++ kind_text kind
 fault_text fault.OutOfMemory = codes "out of memory"
 
--- what is refused where hexadecimal digits aren't read
-abbrev pub hex_refusal : FromHexError → Refusal
-hex_refusal (hex.InvalidHexCharacter c index) = refusal.Bad bad.NotYet
-hex_refusal hex.OddLength = refusal.Bad bad.NotYet
-hex_refusal hex.InvalidStringLength = refusal.Bad bad.NotYet
-hex_refusal hex.OutOfMemory = refusal.OutOfMemory
-
--- the refusal comes from what stands there, which means nothing, or from want of memory
+-- Words have this form, seen as such a value; where they have none they are refused, if not for want of memory.
 abbrev pub Refuses : {V : Type 0} → Refusal → Option V → Type 0
-Refuses (refusal.Bad kind) meaning = (kind ≡ bad.NotYet) × (meaning ≡ None)
-Refuses refusal.OutOfMemory meaning = Unit {0}
+Refuses (refusal.Bad kind) form = (kind ≡ bad.Word) × (form ≡ None)
+Refuses refusal.OutOfMemory form = Unit {0}
 
--- What was read is what stands there, seen as such a value; nothing is read where that means nothing, or for
--- want of memory.
-abbrev pub Reads : {T V : Type 0} → (T → V) → Result T Refusal → Option V → Type 0
-Reads value (Ok x) meaning = meaning ≡ Some (value x)
-Reads value (Err refusal) meaning = Refuses refusal meaning
+abbrev pub Finds : {T V : Type 0} → (T → V) → Result T Refusal → Option V → Type 0
+Finds value (Ok x) form = form ≡ Some (value x)
+Finds value (Err refusal) form = Refuses refusal form
+
+-- What was read is what stands there, seen as such a value; what is refused is refused there with this kind, or
+-- for want of memory.
+abbrev pub Reads : {T V : Type 0} → (T → V) → Result T Refusal → Result V BadKind → Type 0
+Reads value (Ok x) meaning = meaning ≡ Ok (value x)
+Reads value (Err (refusal.Bad kind)) meaning = meaning ≡ Err kind
+Reads value (Err refusal.OutOfMemory) meaning = Unit {0}

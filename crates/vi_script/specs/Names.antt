@@ -1,33 +1,18 @@
--- Names with numbers of any size, as the reader of a text keeps them.
-use Rattle.std.specs.Prelude.{ℕ, Bool, nat_lt, List, Option, min, map}
-use Rattle.std.specs.Option.{option_map}
+-- Names and forms as the reader of a text keeps them.
+use Rattle.std.specs.Prelude.{min, List, map}
 use Rattle.vi_history.specs.declared.call.Caller.{Caller}
 use Rattle.vi_history.specs.declared.call.Caller.TheVariants.{Driver, Back}
 use Rattle.vi_script.specs.declared.line.Await.{Await}
+use Rattle.vi_script.specs.declared.line.Who.{Who}
+use Rattle.vi_script.specs.declared.line.Who.TheVariants as who
 use Rattle.vi_script.specs.declared.name.Name.{Name}
 use Rattle.vi_script.specs.declared.name.Name.TheVariants as name
 use Rattle.vi_script.specs.declared.name.AwaitedName.{AwaitedName}
+use Rattle.vi_script.specs.declared.name.TurnName.{TurnName}
+use Rattle.vi_script.specs.declared.name.TurnName.TheVariants as turn
+use Rattle.vi_script.specs.Forms.{turn_of_caller}
 
--- larger numbers count as 2^32: no line, driver or endpoint has such a number
-abbrev pub capped : ℕ → ℕ
-capped n = min n 4294967296
-
-abbrev pub capped_number : Option ℕ → Option ℕ
-capped_number number = option_map capped number
-
-abbrev pub capped_caller : Caller → Caller
-capped_caller (Driver number) = Driver (capped number)
-capped_caller (Back id) = Back (capped id)
-
-abbrev pub capped_await : Await → Await
-capped_await a = record { caller = capped_caller a.caller; line = capped a.line }
-
--- the numbers are those of a caller
-abbrev pub fits_caller : Caller → Bool
-fits_caller (Driver number) = nat_lt number 256
-fits_caller (Back id) = nat_lt id 4294967296
-
--- the caller that a name names, and the line that an awaited word does
+-- the caller that a name names, the line that an awaited word does, and a turn
 abbrev pub named : Name → Caller
 named (name.Driver number) = Driver number
 named (name.Back id) = Back id
@@ -38,12 +23,23 @@ awaited a = record { caller = named a.caller; line = a.line }
 abbrev pub all_awaited : List AwaitedName → List Await
 all_awaited names = map awaited names
 
--- what is read of names
-abbrev pub capped_name : Option Caller → Option Caller
-capped_name caller = option_map capped_caller caller
+abbrev pub turned : TurnName → Who
+turned (turn.Caller caller) = turn_of_caller (named caller)
+turned turn.Device = who.Device
+turned turn.Events = who.Events
 
-abbrev pub capped_awaited : Option Await → Option Await
-capped_awaited a = option_map capped_await a
+abbrev pub all_turned : List TurnName → List Who
+all_turned turns = map turned turns
 
-abbrev pub all_capped : Option (List Await) → Option (List Await)
-all_capped awaits = option_map (λ xs. map capped_await xs) awaits
+-- what is kept of a name in numbers of 8 and of 32 bits: larger ones count as the largest
+abbrev pub caller_kept : Name → Caller
+caller_kept (name.Driver number) = Driver (min number 255)
+caller_kept (name.Back id) = Back (min id 4294967295)
+
+abbrev pub await_kept : AwaitedName → Await
+await_kept a = record { caller = caller_kept a.caller; line = min a.line 4294967295 }
+
+abbrev pub turn_kept : TurnName → Who
+turn_kept (turn.Caller caller) = turn_of_caller (caller_kept caller)
+turn_kept turn.Device = who.Device
+turn_kept turn.Events = who.Events

@@ -1,18 +1,11 @@
 -- Texts line by line.
-use Rattle.std.specs.Prelude.{◌≡◌, ℕ, Option, Some, None, Result, Err}
+use Rattle.std.specs.Prelude.{◌≡◌, ℕ, Result, Err}
 use Rattle.vi_script.specs.declared.fault.Refusal.{Refusal}
 use Rattle.vi_script.specs.declared.fault.Refusal.TheVariants as refusal
 use Rattle.vi_script.specs.declared.fault.ScriptFault.{ScriptFault}
 use Rattle.vi_script.specs.declared.fault.ScriptFault.TheVariants as fault
 use Rattle.vi_script.specs.Value.{ScriptValue}
-use Rattle.vi_script.specs.Said.{Said, says}
-use Rattle.vi_script.specs.Texts.{Judgement, SaysNothing, Says, Refused, Bad}
-
--- what is said behind a line of this judgement
-abbrev pub said_after : Said → Judgement → Option Said
-said_after above SaysNothing = Some above
-said_after above (Says statement) = Some (says above statement)
-said_after above Refused = None
+use Rattle.vi_script.specs.Texts.{Bad}
 
 -- a refusal of the line of this number
 abbrev pub fault_at : ℕ → Refusal → ScriptFault

@@ -1,52 +1,62 @@
--- Statements as the reader of a text keeps them, with names of any size.
-use Rattle.std.specs.Prelude.{false, Option, map}
-use Rattle.std.specs.Option.{option_map}
-use Rattle.vi_history.specs.declared.call.Caller.{Caller}
+-- Statements as the reader of a text keeps them.
+use Rattle.std.specs.Prelude.{◌≡◌, ℕ, Bool, true}
+use Rattle.std.specs.List.{list_all}
+use Rattle.vi_script.specs.declared.job.Job.{Job}
+use Rattle.vi_script.specs.declared.job.Job.TheVariants as job
 use Rattle.vi_script.specs.declared.line.Line.{Line}
-use Rattle.vi_script.specs.declared.deed.DeedWords.{DeedWords}
-use Rattle.vi_script.specs.declared.deed.DeedWords.TheVariants as words
+use Rattle.vi_script.specs.declared.form.Setting.{Setting}
+use Rattle.vi_script.specs.declared.form.Setting.TheVariants as setting
+use Rattle.vi_script.specs.declared.form.Switch.{Switch}
+use Rattle.vi_script.specs.declared.form.Switch.TheVariants as switch
+use Rattle.vi_script.specs.declared.statement.JobNumbers.{JobNumbers}
+use Rattle.vi_script.specs.declared.statement.JobNumbers.TheVariants as numbers
 use Rattle.vi_script.specs.declared.statement.ActorLine.{ActorLine}
 use Rattle.vi_script.specs.declared.statement.Parsed.{Parsed}
 use Rattle.vi_script.specs.declared.statement.Parsed.TheVariants as parsed
-use Rattle.vi_script.specs.Names.{named, all_awaited, capped_caller, capped_await}
-use Rattle.vi_script.specs.Forms.{◌>>=◌, Act, Form, Deed, Attaches, Maps, Reads, Writes}
-use Rattle.vi_script.specs.Statements.{Statement, Memory, Endpoint, Actor, line_with, statement_of}
+use Rattle.vi_script.specs.Names.{named, all_awaited, all_turned}
+use Rattle.vi_script.specs.Statements.{Statement, Memory, Queue, Cache, Granule, Input, Bypass, Events, Endpoint, Reserve, Turns, Actor, names_fit, turn_fits}
 
--- the deed of these words
-abbrev pub deed_of : DeedWords → Deed
-deed_of (words.Attach domain endpoint) = Attaches domain.now endpoint.now
-deed_of (words.Map domain first last target flags) = Maps domain.now first.now last.now target.now flags
-deed_of (words.Read iova len) = Reads iova.now len.now
-deed_of (words.Write iova hex) = Writes iova.now hex.now
+-- the job of these numbers, and the line
+abbrev pub job_of_numbers : JobNumbers → Job
+job_of_numbers (numbers.Ask request) = job.Ask request
+job_of_numbers (numbers.Raw read write) = job.Raw read write
+job_of_numbers (numbers.Bypass on) = job.Bypass on
+job_of_numbers (numbers.Read iova len) = job.Read iova len
+job_of_numbers (numbers.Write iova bytes) = job.Write iova bytes
 
--- the line that was read, and the statement
 abbrev pub line_of_names : ActorLine → Line
-line_of_names a = record { caller = named a.caller; job = a.job; add = false; awaits = all_awaited a.awaits.items }
+line_of_names a = record { caller = named a.caller; job = job_of_numbers a.job; add = a.add; awaits = all_awaited a.awaits.items }
 
+-- a setting to a number, or on or off
+abbrev pub set_to : Setting → ℕ → Statement
+set_to setting.Memory n = Memory n
+set_to setting.Queue n = Queue n
+set_to setting.Cache n = Cache n
+set_to setting.Granule n = Granule n
+
+abbrev pub switched : Switch → Bool → Statement
+switched switch.Bypass on = Bypass on
+switched switch.Events on = Events on
+
+-- the statement that was read
 abbrev pub stated : Parsed → Statement
-stated (parsed.Memory pages) = Memory pages
+stated (parsed.Sets s n) = set_to s n
+stated (parsed.Switches s on) = switched s on
 stated (parsed.Endpoint id) = Endpoint id
+stated (parsed.Input span) = Input span
+stated (parsed.Reserve endpoint region) = Reserve endpoint region
+stated (parsed.Turns turns) = Turns (all_turned turns.items)
 stated (parsed.Actor l) = Actor (line_of_names l)
 
--- a line whose awaited lines have no large numbers
-abbrev pub capped_awaits : Line → Line
-capped_awaits l = record l { awaits = map capped_await l.awaits }
+-- the names in a statement that was read fit
+abbrev pub HasNames : ActorLine → Type 0
+HasNames a = names_fit (named a.caller) (all_awaited a.awaits.items) ≡ true
 
--- a line without large numbers in its names
-abbrev pub capped_line : Line → Line
-capped_line l = record l { caller = capped_caller l.caller; awaits = map capped_await l.awaits }
-
-abbrev pub capped_statement : Statement → Statement
-capped_statement (Memory pages) = Memory pages
-capped_statement (Endpoint id) = Endpoint id
-capped_statement (Actor l) = Actor (capped_line l)
-
--- what is read of the line of a caller that does this, and of a statement of this form
-abbrev pub line_from : Caller → Option Act → Option Line
-line_from caller act = option_map capped_awaits (act >>= line_with caller)
-
-abbrev pub actor_from : Caller → Option Act → Option Statement
-actor_from caller act = option_map (λ l. Actor l) (line_from caller act)
-
-abbrev pub statement_from : Option Form → Option Statement
-statement_from form = option_map capped_statement (form >>= statement_of)
+abbrev pub HaveNames : Parsed → Type 0
+HaveNames (parsed.Sets s n) = Unit {0}
+HaveNames (parsed.Switches s on) = Unit {0}
+HaveNames (parsed.Endpoint id) = Unit {0}
+HaveNames (parsed.Input span) = Unit {0}
+HaveNames (parsed.Reserve endpoint region) = Unit {0}
+HaveNames (parsed.Turns turns) = list_all (λ t. turn_fits t) (all_turned turns.items) ≡ true
+HaveNames (parsed.Actor l) = HasNames l

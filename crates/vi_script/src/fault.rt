@@ -3,7 +3,6 @@ ghost use Rattle.std.specs.Prelude.{◌≡◌};
 ghost use Rattle.vi_script.specs.Faults.{kind_text};
 ghost use Rattle.vi_script.specs.Parsing.{fault_at};
 
-use hex::FromHexError;
 use std::alloc::{AllocError, AllocFailed};
 use std::error::Error;
 use std::fmt;
@@ -144,21 +143,5 @@ impl<T: Drop> From<AllocFailed<T>> for Refusal {
 
     fn from(_: AllocFailed<T>) -> Refusal {
         Refusal::OutOfMemory
-    }
-}
-
-impl From<FromHexError> for Refusal {
-    ghost use Rattle.std.specs.Prelude.{◌≡◌};
-    ghost use Rattle.vi_script.specs.Faults.{hex_refusal};
-
-    ghost from_gives = { λ e refusal. refusal ≡ hex_refusal e };
-
-    fn from(e: FromHexError) -> Refusal {
-        match e {
-            FromHexError::InvalidHexCharacter { .. }
-            | FromHexError::OddLength
-            | FromHexError::InvalidStringLength => Refusal::Bad(BadKind::NotYet),
-            FromHexError::OutOfMemory => Refusal::OutOfMemory,
-        }
     }
 }

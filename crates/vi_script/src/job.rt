@@ -1,7 +1,7 @@
 //! What a line of a script does.
 ghost use Rattle.std.specs.Prelude.{◌≡◌, ◌≤◌, IfOk};
 ghost use Rattle.vi_script.specs.Calls.{TransfersWell, parts_of, driver_call, back_call};
-ghost use Rattle.vi_script.specs.Texts.{transferred, attaches};
+ghost use Rattle.vi_script.specs.Limits.{transferred};
 
 use std::alloc::{AllocError, Global};
 use vi_bytes::{Bytes, cut, parts};
@@ -45,13 +45,6 @@ impl Job {
             Job::Write { bytes, .. } => bytes.len() as u64,
             Job::Ask(_) | Job::Raw { .. } | Job::Bypass(_) => 0,
         }
-    }
-
-    /// Whether the job is an ATTACH request.
-    pub fn attaches(&self) -> bool
-        ensures { result ≡ attaches self.now }
-    {
-        matches!(self, Job::Ask(Request::Attach { .. }))
     }
 
     /// The call of a driver's job, `None` for a transfer. An error is want of memory.

@@ -1,23 +1,24 @@
 //! Scripts: what drivers ask and back ends transfer, who waits for whom, and which histories are in order.
 #![tactic(auto)]
 
+mod built;
 mod deed;
 mod draft;
 mod fault;
-mod hex_word;
+mod form;
 mod index;
 mod job;
 mod line;
 mod name;
-mod number;
 mod reading;
 mod script;
+mod settings;
 mod statement;
 mod tally;
 #[cfg(test)]
 mod tests;
-mod words;
 
+pub use built::not_built;
 pub use fault::{BadKind, ScriptFault};
 pub use job::Job;
 pub use line::{Await, Line, Who};

@@ -1,26 +1,26 @@
 //! Scripts are read from texts.
 ghost use Rattle.std.specs.Prelude.{◌≡◌, ◌^◌, ◌-◌, ◌<◌, ◌≤◌, length, OnOk, IfOk, MatchResult, Ok};
 ghost use Rattle.vi_script.specs.Faults.{Reads};
-ghost use Rattle.vi_script.specs.Words.{is_comment, says_nothing, has_bad_byte};
-ghost use Rattle.vi_script.specs.Texts.{judge, script};
-ghost use Rattle.vi_script.specs.Made.{IsMade};
-ghost use Rattle.vi_script.specs.Parsing.{said_after, Faults};
+ghost use Rattle.vi_script.specs.Forms.{form_of};
+ghost use Rattle.vi_script.specs.Texts.{judge, judge_words, script};
+ghost use Rattle.vi_script.specs.Calls.{HasTransfers};
+ghost use Rattle.vi_script.specs.Parsing.{Faults};
+ghost use Rattle.vi_script.specs.Valid.{IsValid};
 
 use crate::Script;
-use crate::draft::Draft;
+use crate::draft::{Draft, MOST_LINES};
 use crate::fault::{BadKind, Refusal, ScriptFault};
+use crate::form::form;
 use crate::statement::statement;
-use crate::words::{Lines, Words};
 use std::alloc::Global;
-
-/// The most lines of a text, those that say nothing included.
-const MOST_LINES: u32 = 10_000;
+use vi_words::{Lines, Words, has_bad_byte, says_nothing};
 
 /// The script that a text is, or its first bad line. The text has fewer than 2^32 - 1 bytes.
 pub fn parse(alloc: Global, bytes: &[u8]) -> Result<Script, ScriptFault>
     requires { length bytes.now < 2 ^ 32 - 1 }
     ensures read { MatchResult result (λ s. script bytes.now ≡ Ok s) (λ e. Faults e (script bytes.now)) }
-    ensures made { IfOk result IsMade }
+    ensures valid { IfOk result IsValid }
+    ensures transfers { IfOk result HasTransfers }
 {
     let mut draft = Draft::new(alloc);
     let mut lines = Lines::of(bytes);
@@ -36,49 +36,38 @@ pub fn parse(alloc: Global, bytes: &[u8]) -> Result<Script, ScriptFault>
 }
 
 /// What is said behind the line of this number, counted from 1, which stands below what was said.
+#[tactic(auto, unfolding(crate::specs::Texts::judge))]
 fn next(alloc: Global, draft: Draft, number: u32, line: &[u8]) -> Result<Draft, Refusal>
     requires { length draft.lines < number }
-    ensures next { Reads (λ said. said) result (said_after draft (judge draft number line.now)) }
+    ensures next { Reads (λ said. said) result (judge draft number line.now) }
     ensures few { OnOk result (number ≤ 10000) }
     ensures lines { IfOk result (λ said. length said.lines ≤ number) }
 {
     if has_bad_byte(line) {
-        return Err(Refusal::Bad(BadKind::NotYet));
-    }
-    if number > MOST_LINES {
-        return Err(Refusal::Bad(BadKind::NotYet));
+        return Err(Refusal::Bad(BadKind::Byte));
     }
     let words = Words::of(line);
-    if says_nothing(words.again()) {
-        return Ok(draft);
+    if !says_nothing(words.again()) {
+        return said(alloc, draft, number, words);
     }
-    let statement = statement(alloc, words)?;
-    draft.with(alloc, statement)
+    if number > MOST_LINES {
+        return Err(Refusal::Bad(BadKind::Limit));
+    }
+    Ok(draft)
 }
 
-/// Whether a byte isn't one of 32 to 126.
-fn has_bad_byte(line: &[u8]) -> bool
-    ensures { result ≡ has_bad_byte line.now }
+/// What is said behind the line of these words and this number.
+fn said(alloc: Global, draft: Draft, number: u32, words: Words) -> Result<Draft, Refusal>
+    requires { length draft.lines < number }
+    ensures next { Reads (λ said. said) result (judge_words draft number (form_of words.entry)) }
+    ensures few { OnOk result (number ≤ 10000) }
+    ensures lines { IfOk result (λ said. length said.lines ≤ number) }
 {
-    line.iter().any(|byte| !(32 <= *byte && *byte <= 126))
-}
-
-/// Whether there are no words, or the first begins with `#`.
-fn says_nothing(mut words: Words) -> bool
-    ensures { result ≡ says_nothing words.entry }
-{
-    match words.take() {
-        Some(word) => is_comment(word),
-        None => true,
+    let form = form(alloc, words)?;
+    if draft.is_late(&form) {
+        return Err(Refusal::Bad(BadKind::Late));
     }
-}
-
-/// Whether the word begins with `#`.
-fn is_comment(word: &[u8]) -> bool
-    ensures { result ≡ is_comment word.now }
-{
-    match word {
-        [first, ..] => *first == b'#',
-        [] => false,
-    }
+    let statement = statement(alloc, form)?;
+    draft.judge(number, &statement)?;
+    Ok(draft.with(alloc, statement)?)
 }

@@ -1,186 +1,226 @@
-//! Statements: which words stand where in a line, and what they mean.
-ghost use Rattle.std.specs.Prelude.{◌≡◌, ℕ};
+//! Statements: forms with their numbers and bytes read.
+ghost use Rattle.std.specs.Prelude.{◌≡◌, IfOk};
+ghost use Rattle.std.specs.List.{list_all};
 ghost use Rattle.vi_script.specs.Faults.{Reads};
-ghost use Rattle.vi_script.specs.Forms.{act_with, attach_act, map_act, map_ending, read_act, write_act, driver_act, back_act, act_of, memory_form, endpoint_form, form_of, Deed};
-ghost use Rattle.vi_script.specs.Names.{named};
-ghost use Rattle.vi_script.specs.Stated.{deed_of, line_of_names, stated, line_from, actor_from, statement_from};
+ghost use Rattle.vi_script.specs.Formed.{deed_of, acted, formed};
+ghost use Rattle.vi_script.specs.Forms.{SendsRaw};
+ghost use Rattle.vi_script.specs.Names.{named, awaited, turned};
+ghost use Rattle.vi_script.specs.Stated.{job_of_numbers, line_of_names, stated, HasNames, HaveNames};
+ghost use Rattle.vi_script.specs.Statements.{number_at, id_at, bytes_at, raw_bytes_at, span_at, bypass_flag, turn_fits, await_fits, job_of, line_with, statement_of};
 
-use crate::Job;
-use crate::deed::{DeedWords, ending, is_word, job};
+use crate::deed::{ActWords, DeedWords};
 use crate::fault::{BadKind, Refusal};
-use crate::name::{AwaitedName, Name, caller_name};
-use crate::number::{id, number};
-use crate::words::Words;
+use crate::form::{FormWords, Setting, Switch};
+use crate::name::{AwaitedName, Name, TurnName};
 use std::alloc::Global;
+use vi_bytes::{Bytes, Region, Span};
+use vi_history::Request;
+use vi_words::{hex_bytes, is_word, number};
+
+/// What an actor line asks for or transfers, its lengths not yet looked at.
+#[derive(Debug, Drop)]
+pub enum JobNumbers {
+    Ask(Request),
+    Raw { read: Bytes, write: u64 },
+    Bypass(bool),
+    Read { iova: u64, len: u64 },
+    Write { iova: u64, bytes: Bytes },
+}
 
 /// An actor line as it was read. Its caller and the lines that it awaits may be none that there are.
 #[derive(Debug, Drop)]
 pub struct ActorLine {
     pub caller: Name,
-    pub job: Job,
+    pub job: JobNumbers,
+    pub add: bool,
     pub awaits: Vec<AwaitedName>,
 }
 
 /// A statement as it was read.
 #[derive(Debug, Drop)]
 pub enum Parsed {
-    Memory(u64),
+    Sets(Setting, u64),
+    Switches(Switch, bool),
     Endpoint(u32),
+    Input(Span),
+    Reserve(u32, Region),
+    Turns(Vec<TurnName>),
     Actor(ActorLine),
 }
 
-/// The statement that the words of a line make.
-#[tactic(auto, using(crate::proofs::StatementLemmas::reads_of_actor), unfolding(crate::specs::Forms::form_of))]
-pub fn statement(alloc: Global, mut words: Words) -> Result<Parsed, Refusal>
-    ensures { Reads stated result (statement_from (form_of words.entry)) }
+/// The statement of a form.
+#[tactic(auto, using(crate::proofs::NameLemmas::turns_that_fit))]
+pub fn statement(alloc: Global, form: FormWords) -> Result<Parsed, Refusal>
+    ensures statement { Reads stated result (statement_of (formed form.entry)) }
+    ensures fit { IfOk result HaveNames }
 {
-    let first = words.word()?;
-    if is_word(first, b"memory") {
-        memory(words)
-    } else if is_word(first, b"endpoint") {
-        endpoint(words)
+    match form {
+        FormWords::Sets(setting, word) => Ok(Parsed::Sets(setting, number_at(word)?)),
+        FormWords::Switches(setting, on) => Ok(Parsed::Switches(setting, on)),
+        FormWords::Endpoint(word) => Ok(Parsed::Endpoint(id_at(word)?)),
+        FormWords::Input { first, last } => Ok(Parsed::Input(span_at(first, last)?)),
+        FormWords::Reserve {
+            endpoint,
+            kind,
+            first,
+            last,
+        } => {
+            let endpoint = id_at(endpoint)?;
+            let span = span_at(first, last)?;
+            Ok(Parsed::Reserve(endpoint, Region { kind, span }))
+        }
+        FormWords::Turns(turns) if turns_fit(&turns) => Ok(Parsed::Turns(turns)),
+        FormWords::Turns(_) => Err(Refusal::Bad(BadKind::Number)),
+        FormWords::Acts(caller, act) => Ok(Parsed::Actor(line(alloc, caller, act)?)),
+    }
+}
+
+/// A word in a number's place.
+fn number_at(word: &[u8]) -> Result<u64, Refusal>
+    ensures { Reads (λ n. n) result (number_at word.now) }
+{
+    number(word).ok_or(Refusal::Bad(BadKind::Number))
+}
+
+/// A word in the place of a domain or an endpoint.
+fn id_at(word: &[u8]) -> Result<u32, Refusal>
+    ensures { Reads (λ n. n) result (id_at word.now) }
+{
+    let number = number_at(word)?;
+    u32::try_from(number).map_err(|_| Refusal::Bad(BadKind::Number))
+}
+
+/// Two words in the places of a range's ends.
+fn span_at(first: &[u8], last: &[u8]) -> Result<Span, Refusal>
+    ensures { Reads (λ span. span) result (span_at first.now last.now) }
+{
+    let first = number_at(first)?;
+    let last = number_at(last)?;
+    Ok(Span { first, last })
+}
+
+/// A word in the place of bytes.
+fn bytes_at(alloc: Global, word: &[u8]) -> Result<Bytes, Refusal>
+    ensures { Reads (λ bytes. bytes) result (bytes_at word.now) }
+{
+    match hex_bytes(alloc, word)? {
+        Some(bytes) => Ok(bytes),
+        None => Err(Refusal::Bad(BadKind::Hex)),
+    }
+}
+
+/// A word in the place of a raw request's bytes, where `-` stands for none.
+fn raw_bytes_at(alloc: Global, word: &[u8]) -> Result<Bytes, Refusal>
+    ensures { Reads (λ bytes. bytes) result (raw_bytes_at word.now) }
+{
+    if is_word(word, b"-") {
+        Ok(Bytes::from_vec(Vec::new(alloc)))
     } else {
-        let caller = caller_name(first)?;
-        actor(alloc, caller, words)
+        bytes_at(alloc, word)
     }
 }
 
-/// The words behind `memory`.
-fn memory(mut words: Words) -> Result<Parsed, Refusal>
-    ensures { Reads stated result (statement_from (memory_form words.entry)) }
+/// The flags of an ATTACH request.
+fn bypass_flag(bypass: bool) -> u32
+    ensures { result ≡ bypass_flag bypass }
 {
-    let pages = words.word()?;
-    match words.take() {
-        Some(_) => Err(Refusal::Bad(BadKind::NotYet)),
-        None => Ok(Parsed::Memory(number(pages)?)),
+    u32::from(bypass)
+}
+
+/// The job of a deed: its numbers are read first, and then its bytes.
+fn job(alloc: Global, deed: DeedWords) -> Result<JobNumbers, Refusal>
+    ensures { Reads job_of_numbers result (job_of (deed_of deed.entry)) }
+{
+    match deed {
+        DeedWords::Attach {
+            domain,
+            endpoint,
+            bypass,
+        } => Ok(JobNumbers::Ask(Request::Attach {
+            domain: id_at(domain)?,
+            endpoint: id_at(endpoint)?,
+            flags: bypass_flag(bypass),
+        })),
+        DeedWords::Detach { domain, endpoint } => Ok(JobNumbers::Ask(Request::Detach {
+            domain: id_at(domain)?,
+            endpoint: id_at(endpoint)?,
+        })),
+        DeedWords::Map {
+            domain,
+            first,
+            last,
+            target,
+            flags,
+        } => Ok(JobNumbers::Ask(Request::Map {
+            domain: id_at(domain)?,
+            first: number_at(first)?,
+            last: number_at(last)?,
+            target: number_at(target)?,
+            flags,
+        })),
+        DeedWords::Unmap {
+            domain,
+            first,
+            last,
+        } => Ok(JobNumbers::Ask(Request::Unmap {
+            domain: id_at(domain)?,
+            first: number_at(first)?,
+            last: number_at(last)?,
+        })),
+        DeedWords::Probe { endpoint } => Ok(JobNumbers::Ask(Request::Probe {
+            endpoint: id_at(endpoint)?,
+        })),
+        DeedWords::Bypass { on } => Ok(JobNumbers::Bypass(on)),
+        DeedWords::Raw { hex, writable } => raw(alloc, hex, writable),
+        DeedWords::Read { iova, len } => Ok(JobNumbers::Read {
+            iova: number_at(iova)?,
+            len: number_at(len)?,
+        }),
+        DeedWords::Write { iova, hex } => Ok(JobNumbers::Write {
+            iova: number_at(iova)?,
+            bytes: bytes_at(alloc, hex)?,
+        }),
     }
 }
 
-/// The words behind `endpoint`.
-fn endpoint(mut words: Words) -> Result<Parsed, Refusal>
-    ensures { Reads stated result (statement_from (endpoint_form words.entry)) }
+/// A request of these bytes with so many writable ones.
+fn raw(alloc: Global, hex: &[u8], writable: &[u8]) -> Result<JobNumbers, Refusal>
+    ensures { Reads job_of_numbers result (job_of (SendsRaw hex.now writable.now)) }
 {
-    let endpoint = words.word()?;
-    match words.take() {
-        Some(_) => Err(Refusal::Bad(BadKind::NotYet)),
-        None => Ok(Parsed::Endpoint(id(endpoint)?)),
+    let write = number_at(writable)?;
+    let read = raw_bytes_at(alloc, hex)?;
+    Ok(JobNumbers::Raw { read, write })
+}
+
+/// The line of a caller that does and awaits this.
+#[tactic(auto, using(crate::proofs::NameLemmas::awaits_that_fit))]
+fn line(alloc: Global, caller: Name, act: ActWords) -> Result<ActorLine, Refusal>
+    ensures line { Reads line_of_names result (line_with (named caller) (acted act.entry)) }
+    ensures fit { IfOk result HasNames }
+{
+    let ActWords { deed, add, awaits } = act;
+    if !caller.fits() || !all_fit(&awaits) {
+        return Err(Refusal::Bad(BadKind::Number));
     }
-}
-
-/// The words behind a caller's name.
-fn actor(alloc: Global, caller: Name, words: Words) -> Result<Parsed, Refusal>
-    ensures { Reads stated result (actor_from (named caller) (act_of (named caller) words.entry)) }
-{
-    let line = actor_line(alloc, caller, words)?;
-    Ok(Parsed::Actor(line))
-}
-
-/// An actor line that ends with these words.
-fn act(alloc: Global, caller: Name, deed: DeedWords, words: Words) -> Result<ActorLine, Refusal>
-    ensures { Reads line_of_names result (line_from (named caller) (act_with (deed_of deed.entry) words.entry)) }
-{
-    let awaits = ending(alloc, words)?;
     let job = job(alloc, deed)?;
     Ok(ActorLine {
         caller,
         job,
+        add,
         awaits,
     })
 }
 
-/// The words behind `attach`.
-fn attach(alloc: Global, caller: Name, mut words: Words) -> Result<ActorLine, Refusal>
-    ensures { Reads line_of_names result (line_from (named caller) (attach_act words.entry)) }
+/// Whether all awaited names fit.
+fn all_fit(awaits: &[AwaitedName]) -> bool
+    ensures { result ≡ list_all (λ name. await_fits (awaited name)) awaits.now }
 {
-    let domain = words.word()?;
-    let endpoint = words.word()?;
-    act(alloc, caller, DeedWords::Attach { domain, endpoint }, words)
+    awaits.iter().all(|awaited| awaited.fits())
 }
 
-/// The words behind `map`.
-fn map(alloc: Global, caller: Name, mut words: Words) -> Result<ActorLine, Refusal>
-    ensures { Reads line_of_names result (line_from (named caller) (map_act words.entry)) }
+/// Whether all turns fit.
+fn turns_fit(turns: &[TurnName]) -> bool
+    ensures { result ≡ list_all (λ name. turn_fits (turned name)) turns.now }
 {
-    let domain = words.word()?;
-    let first = words.word()?;
-    let last = words.word()?;
-    let target = words.word()?;
-    let (flags, words) = map_flags(words);
-    let deed = DeedWords::Map {
-        domain,
-        first,
-        last,
-        target,
-        flags,
-    };
-    act(alloc, caller, deed, words)
-}
-
-/// The flags that `r`, `w` or `rw` stands for, 0 where none of them comes next, and the words behind it.
-fn map_flags<'a>(words: Words<'a>) -> (u32, Words<'a>)
-    ensures { (maps : ℕ → Deed) → map_ending maps words.entry ≡ act_with (maps result.0) result.1 }
-{
-    let mut rest = words.again();
-    match rest.take() {
-        Some(word) if is_word(word, b"r") => (1, rest),
-        Some(word) if is_word(word, b"w") => (2, rest),
-        Some(word) if is_word(word, b"rw") => (3, rest),
-        _ => (0, words),
-    }
-}
-
-/// The words behind `read`.
-fn read(alloc: Global, caller: Name, mut words: Words) -> Result<ActorLine, Refusal>
-    ensures { Reads line_of_names result (line_from (named caller) (read_act words.entry)) }
-{
-    let iova = words.word()?;
-    let len = words.word()?;
-    act(alloc, caller, DeedWords::Read { iova, len }, words)
-}
-
-/// The words behind `write`.
-fn write(alloc: Global, caller: Name, mut words: Words) -> Result<ActorLine, Refusal>
-    ensures { Reads line_of_names result (line_from (named caller) (write_act words.entry)) }
-{
-    let iova = words.word()?;
-    let hex = words.word()?;
-    act(alloc, caller, DeedWords::Write { iova, hex }, words)
-}
-
-/// The words behind a driver's name, by their verb.
-fn driver_line(alloc: Global, caller: Name, mut words: Words) -> Result<ActorLine, Refusal>
-    ensures { Reads line_of_names result (line_from (named caller) (driver_act words.entry)) }
-{
-    let verb = words.word()?;
-    if is_word(verb, b"attach") {
-        attach(alloc, caller, words)
-    } else if is_word(verb, b"map") {
-        map(alloc, caller, words)
-    } else {
-        Err(Refusal::Bad(BadKind::NotYet))
-    }
-}
-
-/// The words behind a back end's name, by their verb.
-fn back_line(alloc: Global, caller: Name, mut words: Words) -> Result<ActorLine, Refusal>
-    ensures { Reads line_of_names result (line_from (named caller) (back_act words.entry)) }
-{
-    let verb = words.word()?;
-    if is_word(verb, b"read") {
-        read(alloc, caller, words)
-    } else if is_word(verb, b"write") {
-        write(alloc, caller, words)
-    } else {
-        Err(Refusal::Bad(BadKind::NotYet))
-    }
-}
-
-/// What stands behind a caller's name.
-fn actor_line(alloc: Global, caller: Name, words: Words) -> Result<ActorLine, Refusal>
-    ensures { Reads line_of_names result (line_from (named caller) (act_of (named caller) words.entry)) }
-{
-    match caller {
-        Name::Driver(_) => driver_line(alloc, caller, words),
-        Name::Back(_) => back_line(alloc, caller, words),
-    }
+    turns.iter().all(|turn| turn.fits())
 }

@@ -1,5 +1,5 @@
 -- How a call ends, from how its text was delivered, and what each status then says.
-use Rattle.std.proofs.Common.{◌≡◌, ◌≢◌, ◌≤◌, ◌<◌, ◌⊎◌, ℕ, List, [], length, Some, None, IsSome, IfSome, refl, sym, ◌∙◌, ap, subst, inl, inr, arith}
+use Rattle.std.proofs.Common.{◌≡◌, ◌≢◌, ◌≤◌, ◌<◌, ◌⊎◌, ℕ, List, [], length, Some, None, IsSome, refl, sym, ◌∙◌, ap, subst, inl, inr, arith}
 use Rattle.std.specs.declared.option.Option.{Option}
 use Rattle.std.specs.Io.KnownBytes.{Appends, Keeps}
 use Rattle.std.proofs.KnownBytes.{Appends-nil, Appends-kept}
@@ -10,11 +10,11 @@ use Rattle.viommu.specs.Status.{status_text}
 use Rattle.viommu.specs.Work.{Sims, ran, refused, spent, Does, sims}
 use Rattle.viommu.specs.Top.{Outside, Works, IsDue, usage, too_long, worked, IsFault, WritesReport, IsRefusedAt, IsSpentOn, CutsText, IsTooLongPast, IsRunWithin, IsRefusedWithin, Ends, delivered, cut, not_read, no_memory}
 use Rattle.vi_script.specs.Value.{ScriptValue}
-use Rattle.vi_script.specs.Texts.{script, Bad}
+use Rattle.vi_script.specs.Texts.{Bad}
+use Rattle.viommu.specs.Runnable.{runnable}
 use Rattle.vi_script.specs.declared.fault.BadKind.{BadKind}
 use Rattle.std.specs.Prelude as std
 use Rattle.viommu.specs.declared.command.Command.{Command}
-use Rattle.viommu.specs.declared.command.Command.TheVariants.{Sim}
 use Rattle.viommu.specs.declared.status.Status.{Status}
 use Rattle.viommu.specs.declared.status.Status.TheVariants.{Ok, Usage, BadScript, TooLong, ReadFault, WriteFault, OutOfMemory, Spent}
 use Rattle.viommu.specs.declared.top.TheConstants.{INPUT_LIMIT}
@@ -214,22 +214,22 @@ module _ (command : Option Command) (input : List ℕ) (left_new : Option (List 
       let same : w.form ≡ form = cc (w.is_form, is) in
       subst (λ (i : List ℕ). Does form i status text) (told_input input w) (subst (λ (f : Command). Does f w.input status text) same w.done)
 
-run_sims : {input answer : List ℕ} {status : Status} (s : ScriptValue) → script input ≡ std.Ok s → Sims input status answer → (status ≡ Ok) ⊎ ((status ≡ Spent) ⊎ IsFault status)
+run_sims : {input answer : List ℕ} {status : Status} (s : ScriptValue) → runnable input ≡ std.Ok s → Sims input status answer → (status ≡ Ok) ⊎ ((status ≡ Spent) ⊎ IsFault status)
 run_sims s is (ran _ o r made typed of_run st a) = inl st
 run_sims s is (refused bad r st a) = absurd (cc (is, r))
 run_sims s is (spent _ r made st a) = inr (inl st)
 
-run_does : {form : Command} {input answer : List ℕ} {status : Status} (s : ScriptValue) → script input ≡ std.Ok s → Does form input status answer → (status ≡ Ok) ⊎ ((status ≡ Spent) ⊎ IsFault status)
+run_does : {form : Command} {input answer : List ℕ} {status : Status} (s : ScriptValue) → runnable input ≡ std.Ok s → Does form input status answer → (status ≡ Ok) ⊎ ((status ≡ Spent) ⊎ IsFault status)
 run_does s is (sims f d) = run_sims s is d
 
-refused_sims : {input answer : List ℕ} {status : Status} (bad : Bad) → script input ≡ std.Err bad → Sims input status answer → (status ≡ BadScript bad.line bad.kind) ⊎ IsFault status
+refused_sims : {input answer : List ℕ} {status : Status} (bad : Bad) → runnable input ≡ std.Err bad → Sims input status answer → (status ≡ BadScript bad.line bad.kind) ⊎ IsFault status
 refused_sims bad is (ran _ o r made typed of_run st a) = absurd (cc (is, r))
 refused_sims bad is (refused other r st a) =
     let same : other ≡ bad = cc (is, r) in
     inl (st ∙ ap (λ (b : Bad). BadScript b.line b.kind) same)
 refused_sims bad is (spent _ r made st a) = absurd (cc (is, r))
 
-refused_does : {form : Command} {input answer : List ℕ} {status : Status} (bad : Bad) → script input ≡ std.Err bad → Does form input status answer → (status ≡ BadScript bad.line bad.kind) ⊎ IsFault status
+refused_does : {form : Command} {input answer : List ℕ} {status : Status} (bad : Bad) → runnable input ≡ std.Err bad → Does form input status answer → (status ≡ BadScript bad.line bad.kind) ⊎ IsFault status
 refused_does bad is (sims f d) = refused_sims bad is d
 
 too_long_from_due : (command : Option Command) (left new : Option (List ℕ)) (status : Status) {text : List ℕ} → IsDue command left new status text → IsSome command → IsTooLongPast left status

@@ -8,4 +8,5 @@ pub mod Standard
 pub mod Status
 pub mod Top
 pub mod Words
+pub mod Runnable
 pub mod Work

@@ -7,7 +7,8 @@ use Rattle.vi_report.specs.Texts.{text}
 use Rattle.vi_report.specs.Types.{IsTyped}
 use Rattle.vi_core.specs.Worlds.{IsOutcome, IsSpent}
 use Rattle.vi_script.specs.Value.{ScriptValue}
-use Rattle.vi_script.specs.Texts.{script, Bad}
+use Rattle.vi_script.specs.Texts.{Bad}
+use Rattle.viommu.specs.Runnable.{runnable}
 use Rattle.vi_script.specs.declared.fault.BadKind.{BadKind}
 use Rattle.std.specs.declared.option.Option.{Option}
 use Rattle.std.specs.Io.KnownBytes.{Appends, Keeps}
@@ -50,7 +51,7 @@ pub record WritesReport (left_old left_new taken_old taken_new : Option (List �
   pub input : List ℕ
   pub read : ReadsAll left_old left_new input
   pub s : ScriptValue
-  pub is_script : script input ≡ std.Ok s
+  pub is_script : runnable input ≡ std.Ok s
   pub outcome : Outcome
   pub made : IsWellMade outcome
   pub typed : IsTyped outcome
@@ -61,14 +62,14 @@ pub record WritesReport (left_old left_new taken_old taken_new : Option (List �
 pub record IsRefusedAt (line : ℕ) (kind : BadKind) (left_old left_new : Option (List ℕ)) : Type 0 where
   pub input : List ℕ
   pub read : ReadsAll left_old left_new input
-  pub refused : script input ≡ std.Err (record { line = line; kind = kind })
+  pub refused : runnable input ≡ std.Err (record { line = line; kind = kind })
 
 -- the whole input is a script, of which the budget of rounds was made, and its lines aren't finished
 pub record IsSpentOn (left_old left_new : Option (List ℕ)) : Type 0 where
   pub input : List ℕ
   pub read : ReadsAll left_old left_new input
   pub s : ScriptValue
-  pub is_script : script input ≡ std.Ok s
+  pub is_script : runnable input ≡ std.Ok s
   pub spent : IsSpent s
 
 -- a status was due, and the sink took a proper prefix of its text
@@ -86,14 +87,14 @@ IsTooLongPast (Some input) status = INPUT_LIMIT < length input → (status ≡ T
 abbrev pub IsRunWithin : Option (List ℕ) → Status → Type 0
 IsRunWithin None status = ⊤
 IsRunWithin (Some input) status =
-    length input ≤ INPUT_LIMIT → (s : ScriptValue) → script input ≡ std.Ok s → (status ≡ Ok) ⊎ ((status ≡ Spent) ⊎ IsFault status)
+    length input ≤ INPUT_LIMIT → (s : ScriptValue) → runnable input ≡ std.Ok s → (status ≡ Ok) ⊎ ((status ≡ Spent) ⊎ IsFault status)
 
 -- where no more bytes than the limit are left and they are refused, so is the script, unless a fault comes or memory
 -- is wanting
 abbrev pub IsRefusedWithin : Option (List ℕ) → Status → Type 0
 IsRefusedWithin None status = ⊤
 IsRefusedWithin (Some input) status =
-    length input ≤ INPUT_LIMIT → (bad : Bad) → script input ≡ std.Err bad → (status ≡ BadScript bad.line bad.kind) ⊎ IsFault status
+    length input ≤ INPUT_LIMIT → (bad : Bad) → runnable input ≡ std.Err bad → (status ≡ BadScript bad.line bad.kind) ⊎ IsFault status
 
 -- What is known of the source and the sink at a moment: what is left and what was taken, where they
 -- tell it, and their counts of faults.

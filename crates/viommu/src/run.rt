@@ -1,7 +1,7 @@
 //! A run of a script, round by round.
 ghost use Rattle.std.specs.Prelude.{◌≡◌, IfOk, MatchOption};
 ghost use Rattle.vi_history.specs.Outcomes.{IsWellMade};
-ghost use Rattle.vi_script.specs.Made.{IsMade};
+ghost use Rattle.vi_script.specs.Valid.{IsValid};
 ghost use Rattle.vi_core.specs.Worlds.{IsOutcome, IsSpent, budget_of};
 
 use std::alloc::{AllocError, Global};
@@ -15,7 +15,7 @@ const ROUNDS: u64 = 24;
 /// The outcome of a script's run, or `None` where the budget of rounds was made and its lines aren't finished. An
 /// error is want of memory.
 pub fn outcome_of(alloc: Global, script: Script) -> Result<Option<Outcome>, AllocError>
-    requires { IsMade script }
+    requires { IsValid script }
     ensures { IfOk result (λ o. MatchOption o (IsSpent script) (λ outcome. IsWellMade outcome × IsOutcome script outcome)) }
 {
     let budget = budget(&script);
@@ -34,7 +34,7 @@ pub fn outcome_of(alloc: Global, script: Script) -> Result<Option<Outcome>, Allo
 
 /// How many rounds a run has.
 fn budget(script: &Script) -> u64
-    requires { IsMade script.now }
+    requires { IsValid script.now }
     ensures { result ≡ budget_of script.now }
 {
     let calls = script.lines.len() as u64;

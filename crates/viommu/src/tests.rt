@@ -73,11 +73,8 @@ fn ran(
     Ok((status, Vec::from_slice(alloc, sink.taken())?))
 }
 
-fn refused(line: u32) -> Status {
-    Status::BadScript {
-        line,
-        kind: BadKind::NotYet,
-    }
+fn refused(line: u32, kind: BadKind) -> Status {
+    Status::BadScript { line, kind }
 }
 
 #[test]
@@ -90,8 +87,14 @@ fn reports_and_refusals(rt: HostRuntime) -> Result<(), Fail> {
         (
             "sim 0 0",
             b"endpoint",
-            refused(1),
-            b"bad script line 1: notyet\n",
+            refused(1, BadKind::Word),
+            b"bad script line 1: word\n",
+        ),
+        (
+            "sim 0 0",
+            b"memory 1\nqueue 16",
+            refused(2, BadKind::NotYet),
+            b"bad script line 2: notyet\n",
         ),
         ("sim 1 0", FIRST, Status::Usage, b"usage: viommu sim 0 0\n"),
     ];

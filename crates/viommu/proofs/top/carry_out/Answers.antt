@@ -1,4 +1,4 @@
-use Rattle.std.proofs.Common.{◌≡◌, None, refl, rules, ◌∙◌}
+use Rattle.std.proofs.Common.{◌≡◌, None, refl, rules}
 use Rattle.viommu.specs.Top.{usage, too_long, worked}
 use Rattle.viommu.specs.declared.status.Status.TheVariants.{Usage, TooLong}
 use Rattle.viommu.proofs.EndLemmas.{Ends-from_deliver}
