@@ -94,6 +94,13 @@ meeting_here span xs x ys begins ends =
     let here : meets x.span span ≡ true = grind (arith, nat_tests) in
     find-append (λ m. meets m.span span) xs (x ∷ ys) ∙ ap (λ o. option_or (mapping_meeting span xs) o) (cond-true (meets x.span span) (Some x) (mapping_meeting span ys) here)
 
+-- one that begins at or before the span has no lower one beside it that meets the span
+pub meeting_first : (span : Span) (xs : List Mapping) (x : Mapping) (ys : List Mapping) → AreApart (xs ++ x ∷ ys) → x.span.first ≤ span.first → x.span.first ≤ span.last → span.first ≤ x.span.last
+    → mapping_meeting span (xs ++ x ∷ ys) ≡ Some x
+meeting_first span xs x ys apart low begins ends =
+    meeting_here span xs x ys begins ends
+    ∙ ap (λ o. option_or o (Some x)) (meeting_before span x.span.first xs (AreBefore-from_apart xs x ys apart) low)
+
 others_behind : (first address : ℕ) (ms : List Mapping) → first ≤ address → AreBehind address ms → others_than first ms ≡ ms
 others_behind first address [] le behind = refl
 others_behind first address (m ∷ ms) le behind =

@@ -9,7 +9,7 @@ use Rattle.vi_tree.specs.declared.node.Child.{Child}
 use Rattle.vi_tree.specs.declared.node.Node.{Node}
 use Rattle.vi_tree.specs.Shapes.{Shape, inorder, link_of}
 use Rattle.vi_tree.specs.Held.{Holds}
-use Rattle.vi_tree.proofs.ListLemmas.{AreApart-left, AreApart-right, meeting_lower, meeting_higher, meeting_here}
+use Rattle.vi_tree.proofs.ListLemmas.{AreApart-left, AreApart-right, meeting_lower, meeting_higher, meeting_here, meeting_first}
 use Rattle.vi_tree.proofs.HeldLemmas.{opened, leaf_from_link}
 use Rattle.vi_tree.proofs.PathLemmas.{holds_left, holds_right}
 
@@ -40,3 +40,10 @@ module _ (s : Slab Node) (span : Span) (child : Child) (node : Node) (t : Shape)
       let is : inorder t ≡ inorder o.l ++ node.mapping ∷ inorder o.r = ap inorder o.is in
       ap (λ f. option_or f (Some node.mapping)) (below o.l (holds_left s child node t holds read o) (AreApart-left (inorder o.l) (node.mapping ∷ inorder o.r) whole))
       ∙ sym (ap (mapping_meeting span) is ∙ meeting_here span (inorder o.l) node.mapping (inorder o.r) begins ends)
+
+  pub meeting_at_once : node.mapping.span.first ≤ span.last → span.first ≤ node.mapping.span.last → node.mapping.span.first ≤ span.first → Some node.mapping ≡ mapping_meeting span (inorder t)
+  meeting_at_once begins ends low =
+      let o = opened s child node t holds.leads holds.held read in
+      let whole : AreApart (inorder o.l ++ node.mapping ∷ inorder o.r) = rw o.is at apart in
+      let is : inorder t ≡ inorder o.l ++ node.mapping ∷ inorder o.r = ap inorder o.is in
+      sym (ap (mapping_meeting span) is ∙ meeting_first span (inorder o.l) node.mapping (inorder o.r) whole low begins ends)

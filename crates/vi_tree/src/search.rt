@@ -33,6 +33,9 @@ pub fn lowest_meeting(nodes: &Nodes, link: Link, span: &Span, steps: &mut Steps)
                 lowest_meeting(nodes, node.left, span, steps)
             } else if node.mapping.span.last < span.first {
                 lowest_meeting(nodes, node.right, span, steps)
+            } else if node.mapping.span.first <= span.first {
+                // All lower mappings end before this one begins.
+                Some(node.mapping)
             } else {
                 match lowest_meeting(nodes, node.left, span, steps) {
                     Some(lower) => Some(lower),
