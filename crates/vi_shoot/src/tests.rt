@@ -18,8 +18,10 @@ fn removals_go_by_the_oldest(rt: HostRuntime) {
     both.set(2);
     let mut one = Waiting::none();
     one.set(1);
+    one.set(3);
+    one.clear(3);
     let mut ops = Ops::new();
-    assert!(rt; !ops.is_full() && !both.is_none());
+    assert!(rt; !ops.is_full() && !both.is_none() && one.has(1) && !one.has(3));
     let setting = Token::Setting { driver: 1, line: 7 };
     let first = ops.begin(What::Endpoint(4), both, CHAIN);
     let second = ops.begin(What::BypassOff, one, setting);
