@@ -1,0 +1,5 @@
+pub mod Values
+pub mod Tables
+pub mod Kept
+pub mod Aims
+pub mod Ends

@@ -1,0 +1,21 @@
+//! The state of the device: its endpoints, its domains and their mappings, what a request makes of
+//! it, and where an address of an endpoint leads.
+#![tactic(auto)]
+
+mod aim;
+mod device;
+mod domains;
+mod effects;
+mod held;
+mod run;
+mod seat;
+mod seats;
+mod statuses;
+mod table;
+mod translation;
+
+pub use device::Device;
+pub use vi_history::Found;
+
+#[cfg(test)]
+mod tests;
