@@ -69,7 +69,7 @@ meeting_before span address (m ∷ ms) before le =
     let clear : meets m.span span ≡ false = grind (arith, nat_tests) in
     cond-false (meets m.span span) (Some m) (mapping_meeting span ms) clear ∙ meeting_before span address ms before.2 le
 
-or_none : (o : Option Mapping) → option_or o None ≡ o
+pub or_none : (o : Option Mapping) → option_or o None ≡ o
 or_none None = refl
 or_none (Some m) = refl
 

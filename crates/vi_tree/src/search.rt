@@ -25,23 +25,21 @@ pub fn lowest_meeting(nodes: &Nodes, link: Link, span: &Span, steps: &mut Steps)
     ensures rises { steps.old ≤ steps.new }
     ensures counted { steps.new ≤ steps.old + link_height link }
 {
-    match link {
-        None => None,
-        Some(child) => {
-            let node = nodes.read(child.key, steps);
-            if span.last < node.mapping.span.first {
-                lowest_meeting(nodes, node.left, span, steps)
-            } else if node.mapping.span.last < span.first {
-                lowest_meeting(nodes, node.right, span, steps)
-            } else if node.mapping.span.first <= span.first {
-                // All lower mappings end before this one begins.
-                Some(node.mapping)
-            } else {
-                match lowest_meeting(nodes, node.left, span, steps) {
-                    Some(lower) => Some(lower),
-                    None => Some(node.mapping),
-                }
-            }
+    let mut link = link;
+    let mut found = None;
+    while let Some(child) = link {
+        let node = nodes.read(child.key, steps);
+        if span.last < node.mapping.span.first {
+            link = node.left;
+        } else if node.mapping.span.last < span.first {
+            link = node.right;
+        } else if node.mapping.span.first <= span.first {
+            // All lower mappings end before this one begins.
+            return Some(node.mapping);
+        } else {
+            found = Some(node.mapping);
+            link = node.left;
         }
     }
+    found
 }
