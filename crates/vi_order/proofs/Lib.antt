@@ -1,0 +1,9 @@
+pub mod Awaits
+pub mod Backs
+pub mod Counts
+pub mod Drivers
+pub mod Dues
+pub mod Gone
+pub mod Lines
+pub mod Ordered
+pub mod Unmapped
