@@ -11,11 +11,11 @@ use Rattle.std.proofs.lemmas.Str.Parse.{IsNumeralModel, numerals_by_value, tells
 use Rattle.hex.specs.Hex.{IsBytes, encode_lower, encode_with, lower_digits}
 use Rattle.hex.proofs.HexLemmas.{decode_of-encode_lower}
 use Rattle.vi_report.specs.Types.{AreBytes}
-use Rattle.vi_report.specs.Lines.{is_plain, number_at, count_at, is_lower_digit, bytes_at}
+use Rattle.vi_report.specs.Lines.{is_plain, number_at, count_at, is_lower_digit, bytes_at, sized_at}
 
 -- ---- numbers
 
-own : IsNumeralModel (λ ds. all_ascii_digits ds ≡ true) (digits_value 10)
+pub own : IsNumeralModel (λ ds. all_ascii_digits ds ≡ true) (digits_value 10)
 own = numerals_by_value _ tells_all_ascii_digits
 
 -- a run of digits ends where something else begins
@@ -74,3 +74,7 @@ unfolding bytes_at
 bytes_at-encode bytes rest fits ends =
     let digits = encode_lower bytes in
     rw (prefix_len-encode bytes rest (IsBytes-from_AreBytes bytes fits) ends, take_at digits rest (length digits) refl, drop_at digits rest (length digits) refl, decode_of-encode_lower bytes (IsBytes-from_AreBytes bytes fits)) refl
+
+pub sized_at-encode : (size : ℕ) (bytes rest : List ℕ) → length bytes ≡ size → AreBytes bytes → prefix_len is_lower_digit rest ≡ 0 → sized_at size (encode_lower bytes ++ rest) ≡ Some (bytes, rest)
+unfolding sized_at
+sized_at-encode size bytes rest same fits ends = rw (bytes_at-encode bytes rest fits ends, eq-eqb (length bytes) size same) refl

@@ -1,3 +1,10 @@
 pub mod Fields
 pub mod LineLemmas
 pub mod ReportLemmas
+pub mod FieldReading
+pub mod DigitsTaking
+pub mod FieldTaking
+pub mod LineTaking
+pub mod ReportReading
+pub mod ReportTaking
+pub mod Examples

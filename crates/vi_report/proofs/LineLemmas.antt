@@ -4,7 +4,6 @@ use Rattle.std.specs.List.{prefix_len}
 use Rattle.std.specs.Char.{is_ascii_digit}
 use Rattle.std.proofs.lemmas.Bool.{eq-eqb, le-leb, and_from}
 use Rattle.hex.specs.Hex.{encode_lower}
-use Rattle.vi_history.specs.Replies.{Answer}
 use Rattle.vi_history.specs.Outcomes.{HasPart, HasBytes, IsEntry, NamesEntry}
 use Rattle.vi_history.specs.declared.call.Caller.{Caller}
 use Rattle.vi_history.specs.declared.call.Caller.TheVariants.{Driver, Back}
@@ -14,8 +13,10 @@ use Rattle.vi_history.specs.declared.entry.Kind.TheVariants.{Status, Probed, Not
 use Rattle.vi_history.specs.declared.outcome.Shown.{Shown}
 use Rattle.vi_report.specs.Texts.{head_line, name_text, answer_text, entry_line, faults_line, record_line}
 use Rattle.vi_report.specs.Types.{AreBytes, IsTypedCaller, IsTypedEntry, IsTypedShown}
-use Rattle.vi_report.specs.Lines.{after, Name, driver_at, back_at, name_at, probed_at, read_at, answer_at, entry_at, head_at, faults_at, record_at}
-use Rattle.vi_report.proofs.Fields.{number_at-decimal, count_at-decimal, bytes_at-encode}
+use Rattle.vi_report.specs.declared.reading.answer.Answer.{Answer}
+use Rattle.vi_report.specs.declared.reading.name.Name.{Name}
+use Rattle.vi_report.specs.Lines.{after, driver_at, back_at, name_at, kind_at, code_at, properties_at, read_at, answer_at, call_at, entry_at, head_at, faults_at, record_at}
+use Rattle.vi_report.proofs.Fields.{number_at-decimal, count_at-decimal, bytes_at-encode, sized_at-encode}
 
 -- the name of these parts
 abbrev named : Caller → ℕ → ℕ → Name
@@ -53,20 +54,20 @@ name_at-name_text (Back endpoint) line part rest has typed some small small_part
 abbrev answered : Kind → ℕ → List ℕ → Answer
 answered kind code bytes = record { kind = kind; code = code; bytes = bytes }
 
-probed_at-text : (code : ℕ) (bytes rest : List ℕ) → code < 2 ^ 8 → length bytes ≡ 512 → AreBytes bytes
+properties_at-text : (code : ℕ) (bytes rest : List ℕ) → code < 2 ^ 8 → length bytes ≡ 512 → AreBytes bytes
     → answer_at (codes "probed " ++ (decimal code ++ 32 ∷ (encode_lower bytes ++ 10 ∷ rest))) ≡ Some (answered Probed code bytes, 10 ∷ rest)
-unfolding answer_at probed_at after
-probed_at-text code bytes rest small size fits =
-    rw (number_at-decimal 256 code (32 ∷ (encode_lower bytes ++ 10 ∷ rest)) small (omega arith) refl, bytes_at-encode bytes (10 ∷ rest) fits refl, eq-eqb (length bytes) 512 size) refl
+unfolding answer_at kind_at properties_at after
+properties_at-text code bytes rest small size fits =
+    rw (number_at-decimal 256 code (32 ∷ (encode_lower bytes ++ 10 ∷ rest)) small (omega arith) refl, sized_at-encode 512 bytes (10 ∷ rest) size fits refl) refl
 
 answer_at-answer_text : (kind : Kind) (code : ℕ) (bytes rest : List ℕ) → HasBytes kind code bytes → code < 2 ^ 8 → AreBytes bytes
     → answer_at (answer_text kind code bytes ++ 10 ∷ rest) ≡ Some (answered kind code bytes, 10 ∷ rest)
-unfolding answer_at probed_at read_at after
+unfolding answer_at kind_at code_at properties_at read_at after
 answer_at-answer_text Status code bytes rest has small fits =
     rw (number_at-decimal 256 code (10 ∷ rest) small (omega arith) refl, has) refl
 answer_at-answer_text Probed code bytes rest has small fits =
     let parts : answer_text Probed code bytes ++ 10 ∷ rest ≡ codes "probed " ++ (decimal code ++ 32 ∷ (encode_lower bytes ++ 10 ∷ rest)) = simp append_assoc in
-    ap answer_at parts ∙ probed_at-text code bytes rest small has fits
+    ap answer_at parts ∙ properties_at-text code bytes rest small has fits
 answer_at-answer_text Nothing code bytes rest has small fits = rw (has.0, has.1) refl
 answer_at-answer_text Set code bytes rest has small fits = rw (has.0, has.1) refl
 answer_at-answer_text Read code bytes rest has small fits =
@@ -78,6 +79,16 @@ answer_at-answer_text Fault code bytes rest has small fits =
 
 -- ---- lines
 
+call_at-text : (number : ℕ) (caller : Caller) (line part : ℕ) (rest : List ℕ) → number < 2 ^ 32 → HasPart caller part → IsTypedCaller caller → 1 ≤ line → line < 2 ^ 32 → part < 2 ^ 32
+    → call_at number (decimal number ++ 32 ∷ (name_text caller line part ++ 32 ∷ rest)) ≡ Some (named caller line part, rest)
+unfolding call_at after
+call_at-text number caller line part rest small has typed some small_line small_part =
+    rw (
+      number_at-decimal (2 ^ 32) number (32 ∷ (name_text caller line part ++ 32 ∷ rest)) small (omega arith) refl,
+      name_at-name_text caller line part (32 ∷ rest) has typed some small_line small_part refl,
+      eq-eqb number number refl,
+    ) refl
+
 pub entry_at-entry_line : (number : ℕ) (h : Entry) (rest : List ℕ) → IsEntry h → IsTypedEntry h → number < 2 ^ 32
     → entry_at number (entry_line number h ++ rest) ≡ Some (h, rest)
 unfolding entry_line entry_at after
@@ -87,10 +98,8 @@ entry_at-entry_line number h rest made typed small =
     let parts : entry_line number h ++ rest ≡ decimal number ++ 32 ∷ (name ++ 32 ∷ (answer ++ 10 ∷ rest)) = simp append_assoc in
     ap (entry_at number) parts
     ∙ rw (
-      number_at-decimal (2 ^ 32) number (32 ∷ (name ++ 32 ∷ (answer ++ 10 ∷ rest))) small (omega arith) refl,
-      name_at-name_text h.mark.caller h.mark.line h.mark.part (32 ∷ (answer ++ 10 ∷ rest)) made.part typed.mark.caller made.line typed.mark.line typed.mark.part refl,
+      call_at-text number h.mark.caller h.mark.line h.mark.part (answer ++ 10 ∷ rest) small made.part typed.mark.caller made.line typed.mark.line typed.mark.part,
       answer_at-answer_text h.mark.kind h.mark.code h.bytes rest made.answer typed.mark.code typed.bytes,
-      eq-eqb number number refl,
     ) refl
 
 pub head_at-head_line : (count : ℕ) (rest : List ℕ) → count < 2 ^ 32 → head_at (head_line count ++ rest) ≡ Some (count, rest)
@@ -122,6 +131,5 @@ record_at-record_line count x rest few names typed =
     ap (record_at count) parts
     ∙ rw (
       count_at-decimal (count + 1) x.entry (32 ∷ (encode_lower x.bytes ++ 10 ∷ rest)) names.first (omega (arith, names.last)) (omega (arith, names.last)) refl,
-      bytes_at-encode x.bytes (10 ∷ rest) typed.bytes refl,
-      eq-eqb (length x.bytes) 24 typed.size,
+      sized_at-encode 24 x.bytes (10 ∷ rest) typed.size typed.bytes refl,
     ) refl

@@ -2,4 +2,5 @@ pub mod Texts
 pub mod Types
 pub mod Lines
 pub mod Reading
+pub mod Parsing
 pub mod Laws

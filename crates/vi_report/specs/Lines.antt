@@ -7,13 +7,14 @@ use Rattle.std.specs.Result.{result_ok}
 use Rattle.std.specs.Char.{is_ascii_digit}
 use Rattle.std.specs.Str.Parse.{digits_value}
 use Rattle.hex.specs.Hex.{decode_of}
-use Rattle.vi_history.specs.Replies.{Answer}
-use Rattle.vi_history.specs.declared.call.Caller.{Caller}
 use Rattle.vi_history.specs.declared.call.Caller.TheVariants.{Driver, Back}
 use Rattle.vi_history.specs.declared.entry.Entry.{Entry}
 use Rattle.vi_history.specs.declared.entry.Kind.{Kind}
 use Rattle.vi_history.specs.declared.entry.Kind.TheVariants.{Status, Probed, Nothing, Set, Read, Wrote, Fault}
 use Rattle.vi_history.specs.declared.outcome.Shown.{Shown}
+use Rattle.vi_report.specs.declared.reading.answer.Answer.{Answer}
+use Rattle.vi_report.specs.declared.reading.line.FaultCounts.{FaultCounts}
+use Rattle.vi_report.specs.declared.reading.name.Name.{Name}
 
 -- the next step, with what the step before it found
 infixl 10 ◌>>=◌
@@ -58,11 +59,11 @@ bytes_at bytes = do
   read ← result_ok (decode_of (take_while is_lower_digit bytes))
   Some (read, drop (prefix_len is_lower_digit bytes) bytes)
 
--- what a call's name says: who makes it, the line and the part
-pub record Name : Type 0 where
-  pub caller : Caller
-  pub line : ℕ
-  pub part : ℕ
+-- this many bytes
+unfoldable pub sized_at : ℕ → List ℕ → Option (List ℕ × List ℕ)
+sized_at size bytes = do
+  read ← bytes_at bytes
+  only_if (length read.0 == size) read
 
 -- `dJ.L`: drivers are 0 to 7, lines count from 1
 unfoldable pub driver_at : List ℕ → Option (Name × List ℕ)
@@ -88,57 +89,85 @@ back_at bytes = do
 abbrev pub name_at : List ℕ → Option (Name × List ℕ)
 name_at bytes = option_or (driver_at bytes) (back_at bytes)
 
--- the answer of a kind that is said by a word alone
-abbrev pub word_at : List ℕ → Kind → List ℕ → Option (Answer × List ℕ)
-word_at word kind bytes = do
-  rest ← after word bytes
-  Some (record { kind = kind; code = 0; bytes = [] }, rest)
+-- the word that an answer of this kind begins with, and the space behind it where more follows
+abbrev pub word_of : Kind → List ℕ
+word_of Status = codes "status "
+word_of Probed = codes "probed "
+word_of Nothing = codes "nothing"
+word_of Set = codes "set"
+word_of Read = codes "read "
+word_of Wrote = codes "wrote"
+word_of Fault = codes "fault "
 
--- the answer of a kind that is said by a word and a number below 256
-abbrev pub code_at : List ℕ → Kind → List ℕ → Option (Answer × List ℕ)
-code_at word kind bytes = do
-  code_text ← after word bytes
-  code ← number_at 256 code_text
+-- the word of this kind
+abbrev pub word_at : Kind → List ℕ → Option (Kind × List ℕ)
+word_at kind bytes = do
+  rest ← after (word_of kind) bytes
+  Some (kind, rest)
+
+-- the word of some kind
+unfoldable pub kind_at : List ℕ → Option (Kind × List ℕ)
+kind_at bytes =
+    option_or (word_at Status bytes) (option_or (word_at Probed bytes) (option_or (word_at Nothing bytes) (option_or (word_at Set bytes)
+    (option_or (word_at Read bytes) (option_or (word_at Wrote bytes) (word_at Fault bytes))))))
+
+-- a status or a reason, which is below 256
+unfoldable pub code_at : Kind → List ℕ → Option (Answer × List ℕ)
+code_at kind bytes = do
+  code ← number_at 256 bytes
   Some (record { kind = kind; code = code.0; bytes = [] }, code.1)
 
--- `probed S` and 512 bytes
-unfoldable pub probed_at : List ℕ → Option (Answer × List ℕ)
-probed_at bytes = do
-  code_text ← after (codes "probed ") bytes
-  code ← number_at 256 code_text
+-- a status and 512 bytes
+unfoldable pub properties_at : List ℕ → Option (Answer × List ℕ)
+properties_at bytes = do
+  code ← number_at 256 bytes
   properties_text ← after (codes " ") code.1
-  properties ← bytes_at properties_text
-  only_if (length properties.0 == 512) (record { kind = Probed; code = code.0; bytes = properties.0 }, properties.1)
+  properties ← sized_at 512 properties_text
+  Some (record { kind = Probed; code = code.0; bytes = properties.0 }, properties.1)
 
--- `read` and 1 to 4096 bytes
+-- 1 to 4096 bytes
 unfoldable pub read_at : List ℕ → Option (Answer × List ℕ)
 read_at bytes = do
-  read_text ← after (codes "read ") bytes
-  read ← bytes_at read_text
+  read ← bytes_at bytes
   only_if (nat_le 1 (length read.0) && nat_le (length read.0) 4096) (record { kind = Read; code = 0; bytes = read.0 }, read.1)
 
--- an answer, by the word that it begins with
+-- what an answer of this kind says behind its word
+abbrev pub said_at : Kind → List ℕ → Option (Answer × List ℕ)
+said_at Status bytes = code_at Status bytes
+said_at Probed bytes = properties_at bytes
+said_at Nothing bytes = Some (record { kind = Nothing; code = 0; bytes = [] }, bytes)
+said_at Set bytes = Some (record { kind = Set; code = 0; bytes = [] }, bytes)
+said_at Read bytes = read_at bytes
+said_at Wrote bytes = Some (record { kind = Wrote; code = 0; bytes = [] }, bytes)
+said_at Fault bytes = code_at Fault bytes
+
+-- an answer: the word of its kind, and what it says behind it
 unfoldable pub answer_at : List ℕ → Option (Answer × List ℕ)
-answer_at bytes =
-    option_or (code_at (codes "status ") Status bytes) (option_or (probed_at bytes)
-    (option_or (word_at (codes "nothing") Nothing bytes) (option_or (word_at (codes "set") Set bytes)
-    (option_or (read_at bytes) (option_or (word_at (codes "wrote") Wrote bytes) (code_at (codes "fault ") Fault bytes))))))
+answer_at bytes = do
+  kind ← kind_at bytes
+  said_at kind.0 kind.1
 
 -- the entry of this call and answer
 abbrev pub entry_of : Name → Answer → Entry
 entry_of name answer =
     record { mark = record { caller = name.caller; line = name.line; part = name.part; kind = answer.kind; code = answer.code }; bytes = answer.bytes }
 
--- the line of the entry with this number
-unfoldable pub entry_at : ℕ → List ℕ → Option (Entry × List ℕ)
-entry_at number bytes = do
+-- this number of an entry and the entry's name, each with a space behind it
+unfoldable pub call_at : ℕ → List ℕ → Option (Name × List ℕ)
+call_at number bytes = do
   read ← number_at (2 ^ 32) bytes
   name_text ← after (codes " ") read.1
   name ← name_at name_text
   answer_text ← after (codes " ") name.1
-  answer ← answer_at answer_text
+  only_if (read.0 == number) (name.0, answer_text)
+
+-- the line of the entry with this number
+unfoldable pub entry_at : ℕ → List ℕ → Option (Entry × List ℕ)
+entry_at number bytes = do
+  name ← call_at number bytes
+  answer ← answer_at name.1
   rest ← after (codes "\n") answer.1
-  only_if (read.0 == number) (entry_of name.0 answer.0, rest)
+  Some (entry_of name.0 answer.0, rest)
 
 -- the first line: the number of entries
 unfoldable pub head_at : List ℕ → Option (ℕ × List ℕ)
@@ -148,13 +177,8 @@ head_at bytes = do
   rest ← after (codes "\n") count.1
   Some (count.0, rest)
 
--- how many records were delivered, and how many dropped
-pub record Faults : Type 0 where
-  pub shown : ℕ
-  pub dropped : ℕ
-
 -- the line with the counts of faults, of which the first is the sum of the others
-unfoldable pub faults_at : List ℕ → Option (Faults × List ℕ)
+unfoldable pub faults_at : List ℕ → Option (FaultCounts × List ℕ)
 faults_at bytes = do
   all_text ← after (codes "faults ") bytes
   all ← number_at (2 ^ 33) all_text
@@ -170,6 +194,6 @@ unfoldable pub record_at : ℕ → List ℕ → Option (Shown × List ℕ)
 record_at count bytes = do
   entry ← count_at (count + 1) bytes
   record_text ← after (codes " ") entry.1
-  read ← bytes_at record_text
+  read ← sized_at 24 record_text
   rest ← after (codes "\n") read.1
-  only_if (length read.0 == 24) (record { entry = entry.0; bytes = read.0 }, rest)
+  Some (record { entry = entry.0; bytes = read.0 }, rest)

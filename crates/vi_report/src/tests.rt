@@ -1,8 +1,8 @@
-//! A report compared with its whole text.
+//! A report compared with its whole text, and reports read from texts.
 ghost use Rattle.std.specs.Prelude.{◌≡◌, ◌+◌, ◌≤◌, All, OnOk, vec_len};
 ghost use Rattle.vi_history.specs.Outcomes.{HasPart, HasBytes, IsEntry};
 
-use crate::{text, text_is_unambiguous};
+use crate::{ReportFault, parse, parse_reads_reports, text, text_is_unambiguous};
 use std::alloc::{AllocError, Global};
 use std::test::Fail;
 use vi_bytes::{Bytes, Items};
@@ -89,5 +89,32 @@ fn prints_every_kind_of_answer(rt: HostRuntime) -> Result<(), Fail> {
     let want = b"viommu history 0\nfaults 0 shown 0 dropped 0\nend\n";
     assert_eq!(rt; text(alloc, &nothing)?.as_slice(), want.as_slice());
     text_is_unambiguous();
+    Ok(())
+}
+
+#[test]
+fn reads_what_it_prints(rt: HostRuntime) -> Result<(), Fail> {
+    let alloc = rt.alloc();
+    let report =
+        b"viommu history 1\n1 b7.1.2 read 0aff\nfaults 3 shown 1 dropped 2\n1 0102030405060708090a0b0c0d0e0f101112131415161718\nend\n";
+    let outcome = parse(alloc, report)?;
+    assert_eq!(rt; outcome.dropped, 2);
+    assert_eq!(rt; outcome.entries.len(), 1);
+    assert_eq!(rt; text(alloc, &outcome)?.as_slice(), report.as_slice());
+    parse_reads_reports();
+    Ok(())
+}
+
+#[test]
+fn names_the_line_that_does_not_fit(rt: HostRuntime) -> Result<(), Fail> {
+    let alloc = rt.alloc();
+    let fault = match parse(alloc, b"viommu history 1\n1 d0.1 Set\n") {
+        Ok(_) => return Err("a report".into()),
+        Err(fault) => fault,
+    };
+    assert_eq!(rt; fault, ReportFault::Bad { line: 2 });
+    assert_eq!(rt; format!(in alloc; "{fault}")?.as_str(), "bad report line 2");
+    let memory = ReportFault::OutOfMemory;
+    assert_eq!(rt; format!(in alloc; "{memory}")?.as_str(), "out of memory");
     Ok(())
 }
