@@ -1,0 +1,12 @@
+pub mod Ranges
+pub mod WordLemmas
+pub mod NumberLemmas
+pub mod NameLemmas
+pub mod JudgeLemmas
+pub mod LineLemmas
+pub mod TextLemmas
+pub mod ReadLemmas
+pub mod StateLemmas
+pub mod TurnLemmas
+pub mod RoundLemmas
+pub mod ScriptLemmas

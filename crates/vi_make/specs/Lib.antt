@@ -1,0 +1,3 @@
+pub mod LoadScript
+pub mod Summaries
+pub mod Laws
