@@ -2,14 +2,13 @@
 use Rattle.std.proofs.Common.{◌≡◌, ℕ, ◌+◌, ◌-◌, ◌^◌, ◌≤◌, ◌<◌, ◌==◌, ◌||◌, Bool, true, false, not, nat_lt, nat_le, List, [], ◌∷◌, ◌++◌, length, map, Option, Some, None, is_some, refl, sym, ap, ◌∙◌, cond, subst, arith}
 use Rattle.std.specs.List.{find, list_any}
 use Rattle.std.proofs.lemmas.Bool.Decides.{nat_tests}
-use Rattle.std.proofs.lemmas.List.{map-append, length-append, length-map}
+use Rattle.std.proofs.lemmas.List.{map-append, length-append}
 use Rattle.std.proofs.lemmas.List.Elements.{filter-append}
 use Rattle.vi_bytes.specs.declared.span.Span.{Span}
 use Rattle.vi_bytes.specs.Spans.{IsProper, covers}
-use Rattle.vi_bytes.specs.declared.region.Membership.{Membership}
 use Rattle.vi_bytes.specs.declared.region.Membership.TheVariants.{Member}
 use Rattle.vi_history.specs.Device.{Dev, Endpoint, Domain, endpoint_of, domain_of, is_in}
-use Rattle.vi_history.specs.Effects.{moved, moved_if, is_inhabited, inhabited, with_domain}
+use Rattle.vi_history.specs.Effects.{moved, is_inhabited, inhabited, with_domain}
 use Rattle.vi_history.specs.Statuses.{status, map_into, attach_of, unmap_status, are_multiples, region_meets_in, any_mapping_meets, any_mapping_is_cut}
 use Rattle.vi_history.specs.declared.request.Request.TheVariants.{Attach, Map, Unmap}
 use Rattle.vi_ranges.proofs.MappingLemmas.{by_test}
@@ -105,17 +104,6 @@ attaches_known dev domain endpoint flags e =
 pub takes : (maps : ℕ) (span : Span) (target flags : ℕ) (o : Option Domain) → ExistsWith (λ y. any_mapping_meets span y.mappings ≡ false) o → RoomIn maps o → ExistsWith (TakesMapping maps (record { span = span; target = target; flags = flags })) o
 takes maps span target flags None free room = free
 takes maps span target flags (Some y) free room = (free, room)
-
--- the endpoints keep their ids and their number
-pub moved_ids : (id : ℕ) (m : Membership) (es : List Endpoint) → map (λ x. x.id) (moved id m es) ≡ map (λ x. x.id) es
-moved_ids id m [] = refl
-moved_ids id m (x ∷ xs) =
-    let rest = moved_ids id m xs in
-    let same : (b : Bool) → (cond b (record x { domain = m }) x).id ≡ x.id = λ b. elim b as (λ b. (cond b (record x { domain = m }) x).id ≡ x.id) [ true ↦ refl | false ↦ refl ] in
-    ap (λ i. i ∷ map (λ y. y.id) (moved id m xs)) (same (x.id == id)) ∙ ap (λ is. x.id ∷ is) rest
-
-pub moved_count : (id : ℕ) (m : Membership) (es : List Endpoint) → length (moved id m es) ≡ length es
-moved_count id m es = length-map es (moved_if id m)
 
 -- the domain that an endpoint joins has one
 pub joined : (id domain : ℕ) (es : List Endpoint) → is_some (find (λ x. x.id == id) es) ≡ true → is_inhabited (moved id (Member domain) es) domain ≡ true

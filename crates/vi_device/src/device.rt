@@ -1,15 +1,15 @@
 //! The device.
-ghost use Rattle.std.specs.Prelude.{◌≡◌, ◌<◌, ◌≤◌, ◌↔◌, IfOk, IsSome, IsTrue, All, length, map, replicate};
-ghost use Rattle.vi_history.specs.Device.{domain_of, Domain};
+ghost use Rattle.std.specs.Prelude.{◌≡◌, ◌<◌, ◌≤◌, ◌↔◌, IfOk, IsSome, IsTrue, length, replicate};
+ghost use Rattle.vi_history.specs.Device.{domain_of};
 ghost use Rattle.vi_history.specs.Effects.{with_bypass};
-ghost use Rattle.vi_history.specs.Start.{start_dev, unattached};
-ghost use Rattle.vi_device.specs.Values.{IsSetup, rooms, id_at, membership_at, ExistsWith, AreRegions, HasRoom, RoomIn};
+ghost use Rattle.vi_history.specs.Start.{start_dev};
+ghost use Rattle.vi_device.specs.Values.{IsSetup, rooms, membership_at, ExistsWith, HasRoom, RoomIn};
 
 use crate::domains::Domains;
-use crate::seat::Seat;
+use crate::endpoints::Endpoints;
 use std::alloc::{AllocError, Global};
 use std::marker::Model;
-use vi_bytes::{EndpointSetup, Membership, Span};
+use vi_bytes::{Membership, Span};
 use vi_history::{Request, Setup};
 use vi_tree::Tree;
 
@@ -22,22 +22,19 @@ pub struct Device {
     pub(crate) input: Span,
     pub(crate) pages: u32,
     pub(crate) bypass: bool,
-    pub(crate) seats: Vec<Seat>,
+    pub(crate) endpoints: Endpoints,
     pub(crate) domains: Domains,
 }
 
 impl Model for Device {
-    ghost use Rattle.std.specs.Prelude.{map, length, ◌≤◌};
-    ghost use Rattle.vi_device.specs.Values.{DeviceValue, AreDistinct};
+    ghost use Rattle.vi_device.specs.Values.{DeviceValue};
 
     ghost Value = { DeviceValue };
 
     ghost view = { λ d. record {
-      dev = record { granule = d.granule; input = d.input; pages = d.pages; bypass = d.bypass; endpoints = d.seats.items; domains = d.domains.domains };
+      dev = record { granule = d.granule; input = d.input; pages = d.pages; bypass = d.bypass; endpoints = d.endpoints; domains = d.domains.domains };
       maps = d.domains.maps;
     } };
-
-    ghost invariant = { λ d. (length d.seats.items ≤ 16) × AreDistinct (map (λ x. x.id) d.seats.items) };
 }
 
 impl Device {
@@ -53,7 +50,7 @@ impl Device {
             input: setup.input,
             pages: setup.memory,
             bypass: setup.bypass,
-            seats: seats_of(alloc, setup.endpoints.as_slice())?,
+            endpoints: Endpoints::new(alloc, setup.endpoints.as_slice())?,
             domains: Domains::with_room(alloc, maps)?,
         })
     }
@@ -77,14 +74,14 @@ impl Device {
         requires { place < length self.now.dev.endpoints }
         ensures { result ≡ membership_at self.now.dev place }
     {
-        self.seats[place as usize].domain()
+        self.endpoints.domain(place)
     }
 
     /// How many endpoints there are.
     pub fn endpoints(&self) -> usize
         ensures { result ≡ length self.now.dev.endpoints }
     {
-        self.seats.len()
+        self.endpoints.len() as usize
     }
 
     /// Whether an endpoint is in this domain, so that it exists.
@@ -128,16 +125,4 @@ impl Device {
             None => unreachable!(),
         }
     }
-}
-
-// The endpoints, in no domain.
-fn seats_of(alloc: Global, endpoints: &[EndpointSetup]) -> Result<Vec<Seat>, AllocError>
-    requires { All (λ e. AreRegions e.regions) endpoints.now }
-    ensures { IfOk result (λ seats. seats.items ≡ map (λ e. unattached e) endpoints.now) }
-{
-    let mut seats = Vec::with_capacity(alloc, endpoints.len())?;
-    for endpoint in endpoints {
-        seats.push_reserved(Seat::new(alloc, endpoint)?);
-    }
-    Ok(seats)
 }

@@ -1,7 +1,7 @@
 //! The domains of a device.
 ghost use Rattle.std.specs.Prelude.{◌≡◌, ◌==◌, ℕ, ◌+◌, ◌<◌, ◌≤◌, None, [], ◌∷◌, ◌++◌, length, map, All, IfOk, IfSome, is_some, vec_len, vec_capacity};
 ghost use Rattle.std.specs.Option.{option_copied, option_map};
-ghost use Rattle.std.specs.List.{list_any, position_or_len};
+ghost use Rattle.std.specs.List.{position_or_len};
 ghost use Rattle.vi_bytes.specs.Spans.{IsProper};
 ghost use Rattle.vi_bytes.specs.Mappings.{with_mapping, without_span};
 ghost use Rattle.vi_history.specs.Effects.{inhabited, with_mappings};
@@ -9,9 +9,8 @@ ghost use Rattle.vi_device.specs.Kept.{DomainsValue, AreKept, domain_seen, domai
 ghost use Rattle.vi_device.specs.Tables.{IsInRange};
 ghost use Rattle.vi_device.specs.Values.{AreDistinct, ExistsWith};
 
+use crate::endpoints::Endpoints;
 use crate::held::Held;
-use crate::seat::Seat;
-use crate::seats::is_inhabited;
 use crate::table::Table;
 use std::alloc::{AllocError, Global};
 use std::marker::Model;
@@ -90,11 +89,11 @@ impl Domains {
     }
 
     /// Keeps those domains that one of these endpoints is in. The others cease to exist.
-    pub fn keep_inhabited(&mut self, seats: &[Seat])
-        ensures kept { self.new ≡ record self.old { domains = inhabited seats.now self.old.domains } }
+    pub fn keep_inhabited(&mut self, endpoints: &Endpoints)
+        ensures kept { self.new ≡ record self.old { domains = inhabited endpoints.now self.old.domains } }
         ensures distinct { AreDistinct (map (λ y. y.id) self.old.domains) }
     {
-        keep_inhabited(&mut self.held, &mut self.unused, seats);
+        keep_inhabited(&mut self.held, &mut self.unused, endpoints);
     }
 
     /// Adds a mapping to a domain.
@@ -146,17 +145,17 @@ fn place_of(held: &[Held], id: u32) -> usize
 
 // Keeps those domains that one of these endpoints is in. The tables of the others are emptied and
 // put with the unused ones.
-fn keep_inhabited(held: &mut Vec<Held>, unused: &mut Vec<Table>, seats: &[Seat])
+fn keep_inhabited(held: &mut Vec<Held>, unused: &mut Vec<Table>, endpoints: &Endpoints)
     requires count { vec_len held.old + vec_len unused.old ≡ 16 }
     requires room { 16 ≤ vec_capacity unused.old }
-    ensures kept { map domain_seen held.new.items ≡ inhabited seats.now (map domain_seen held.old.items) }
+    ensures kept { map domain_seen held.new.items ≡ inhabited endpoints.now (map domain_seen held.old.items) }
     ensures tables { (maps : ℕ) → AreKept maps held.old.items unused.old.items → AreKept maps held.new.items unused.new.items }
     ensures held_room { vec_capacity held.new ≡ vec_capacity held.old }
     ensures unused_room { vec_capacity unused.new ≡ vec_capacity unused.old }
 {
     let mut place = 0;
     while place < held.len() {
-        if is_inhabited(seats, held[place].id) {
+        if endpoints.is_inhabited(held[place].id) {
             place += 1;
         } else {
             let Held { table, .. } = held.remove(place);

@@ -7,7 +7,6 @@ ghost use Rattle.vi_history.specs.declared.request.Request.TheVariants.{Map, Unm
 ghost use Rattle.vi_device.specs.Values.{HasRoom};
 
 use crate::Device;
-use crate::seats::{move_to, seat_of};
 use crate::statuses::BYPASS;
 use vi_bytes::{Mapping, Membership, Span};
 use vi_history::Request;
@@ -65,8 +64,8 @@ impl Device {
         if self.is_in(endpoint, domain) {
             return;
         }
-        move_to(&mut self.seats, endpoint, Membership::Member(domain));
-        self.domains.keep_inhabited(&self.seats);
+        self.endpoints.move_to(endpoint, Membership::Member(domain));
+        self.domains.keep_inhabited(&self.endpoints);
         if !self.domains.exists(domain) {
             self.domains.add(domain, bypass);
         }
@@ -76,9 +75,9 @@ impl Device {
     fn is_in(&self, endpoint: u32, domain: u32) -> bool
         ensures { result ≡ endpoint_is_in domain (endpoint_of self.now.dev endpoint) }
     {
-        match seat_of(&self.seats, endpoint) {
+        match self.endpoints.find(endpoint) {
             None => false,
-            Some(seat) => seat.is_in(domain),
+            Some(place) => self.endpoints.is_in(place, domain),
         }
     }
 
@@ -86,8 +85,8 @@ impl Device {
     fn detach(&mut self, endpoint: u32)
         ensures { self.new ≡ record self.old { dev = detached self.old.dev endpoint } }
     {
-        move_to(&mut self.seats, endpoint, Membership::Unattached);
-        self.domains.keep_inhabited(&self.seats);
+        self.endpoints.move_to(endpoint, Membership::Unattached);
+        self.domains.keep_inhabited(&self.endpoints);
     }
 
     fn map(&mut self, domain: u32, first: u64, last: u64, target: u64, flags: u32)

@@ -91,7 +91,7 @@ impl Device {
         requires page { page < 2 ^ 52 }
         ensures { result ≡ mapping_through self.now.dev (id_at self.now.dev place) page }
     {
-        self.mapping_by(PAGE * page, self.at(place).domain())
+        self.mapping_by(PAGE * page, self.endpoints.domain(place))
     }
 
     fn mapping_by(&self, address: u64, membership: Membership) -> Option<Mapping>

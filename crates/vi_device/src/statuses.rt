@@ -1,15 +1,14 @@
 //! The status of a request, by the rules that are tried in order.
-ghost use Rattle.std.specs.Prelude.{◌≡◌, ◌==◌, ◌%◌, ◌+◌, Some, All};
+ghost use Rattle.std.specs.Prelude.{◌≡◌, ◌==◌, ◌%◌, ◌+◌, ◌<◌, Some, All, length};
 ghost use Rattle.vi_bytes.specs.Spans.{IsProper};
 ghost use Rattle.std.specs.List.{list_any};
 ghost use Rattle.vi_history.specs.Statuses.{status, attach_status, attach_to, detach_status, map_status, map_into, unmap_status, probe_status, are_multiples, any_mapping_meets};
 ghost use Rattle.vi_history.specs.Device.{endpoint_of, domain_of};
 ghost use Rattle.vi_device.specs.Kept.{domain_seen};
+ghost use Rattle.vi_device.specs.Seated.{endpoint_at};
 
 use crate::Device;
 use crate::held::Held;
-use crate::seat::Seat;
-use crate::seats::{keep_some_of, seat_of};
 use crate::table::Table;
 use vi_bytes::{Region, Span};
 use vi_history::Request;
@@ -56,21 +55,44 @@ impl Device {
         if flags > BYPASS {
             return INVAL;
         }
-        match seat_of(&self.seats, endpoint) {
+        match self.endpoints.find(endpoint) {
             None => NOENT,
-            Some(seat) => match self.domains.find(domain) {
+            Some(place) => match self.domains.find(domain) {
                 None => OK,
-                Some(held) => join_status(held, seat, domain, flags == BYPASS),
+                Some(held) => self.join_status(held, place, domain, flags == BYPASS),
             },
+        }
+    }
+
+    // The status of an ATTACH of this endpoint to this domain, which exists.
+    #[tactic(auto, using(crate::proofs::StatusLemmas::meets_by_region))]
+    fn join_status(&self, held: &Held, place: u32, domain: u32, bypass: bool) -> u8
+        requires { place < length self.now.dev.endpoints }
+        ensures { result ≡ attach_to domain bypass (endpoint_at self.now.dev.endpoints place) (Some (domain_seen held.now)) }
+    {
+        if held.bypass != bypass {
+            return INVAL;
+        }
+        if self.endpoints.is_in(place, domain) {
+            return OK;
+        }
+        if meets_one_of(&held.table, self.endpoints.regions(place)) {
+            INVAL
+        } else {
+            OK
         }
     }
 
     fn detach_status(&self, domain: u32, endpoint: u32) -> u8
         ensures { result ≡ detach_status domain (endpoint_of self.now.dev endpoint) }
     {
-        match seat_of(&self.seats, endpoint) {
+        match self.endpoints.find(endpoint) {
             None => NOENT,
-            Some(seat) => if seat.is_in(domain) { OK } else { INVAL },
+            Some(place) => if self.endpoints.is_in(place, domain) {
+                OK
+            } else {
+                INVAL
+            },
         }
     }
 
@@ -105,7 +127,7 @@ impl Device {
         if u64::MAX - (span.last - span.first) < target {
             return RANGE;
         }
-        if keep_some_of(&self.seats, domain, span) {
+        if self.endpoints.keep_some_of(domain, span) {
             return INVAL;
         }
         if held.table.meets(span) { INVAL } else { OK }
@@ -123,28 +145,10 @@ impl Device {
     fn probe_status(&self, endpoint: u32) -> u8
         ensures { result ≡ probe_status (endpoint_of self.now.dev endpoint) }
     {
-        match seat_of(&self.seats, endpoint) {
+        match self.endpoints.find(endpoint) {
             None => NOENT,
             Some(_) => OK,
         }
-    }
-}
-
-// The status of an ATTACH of this endpoint to this domain, which exists.
-#[tactic(auto, using(crate::proofs::StatusLemmas::meets_by_region))]
-fn join_status(held: &Held, seat: &Seat, domain: u32, bypass: bool) -> u8
-    ensures { result ≡ attach_to domain bypass seat.now (Some (domain_seen held.now)) }
-{
-    if held.bypass != bypass {
-        return INVAL;
-    }
-    if seat.is_in(domain) {
-        return OK;
-    }
-    if meets_one_of(&held.table, seat.regions()) {
-        INVAL
-    } else {
-        OK
     }
 }
 

@@ -1,19 +1,15 @@
 //! Where an address of an endpoint leads.
-ghost use Rattle.std.specs.Prelude.{◌≡◌, ◌<◌, ◌^◌, Some, length, IfSome};
-ghost use Rattle.vi_bytes.specs.Spans.{has};
-ghost use Rattle.vi_history.specs.Device.{endpoint_of};
-ghost use Rattle.vi_history.specs.Translation.{translate, lease, look, look_by, look_in_domain, look_in_mapping, permits, is_in_memory, found_for, lease_for};
+ghost use Rattle.std.specs.Prelude.{◌≡◌, ◌<◌, ◌^◌, Some, length};
+ghost use Rattle.vi_history.specs.Translation.{translate, lease, look, look_by, look_in_domain, permits, is_in_memory};
 ghost use Rattle.vi_history.specs.Replies.{properties};
 ghost use Rattle.vi_device.specs.Aims.{look_seen, HasFlags};
 ghost use Rattle.vi_device.specs.Kept.{domain_seen};
-ghost use Rattle.vi_device.specs.Tables.{IsInRange};
+ghost use Rattle.vi_device.specs.Seated.{endpoint_at};
 ghost use Rattle.vi_device.specs.Values.{id_at};
 
 use crate::Device;
 use crate::aim::Aim;
 use crate::held::Held;
-use crate::seat::Seat;
-use crate::seats::seat_of;
 use vi_bytes::{Lease, Mapping, Membership, Need, PAGE};
 use vi_history::Found;
 use vi_history::reason::{DOMAIN, MAPPING, UNKNOWN};
@@ -69,9 +65,9 @@ impl Device {
     pub fn properties(&self, endpoint: u32) -> [u8; 512]
         ensures { result ≡ properties self.now.dev endpoint }
     {
-        match seat_of(&self.seats, endpoint) {
+        match self.endpoints.find(endpoint) {
             None => [0; 512],
-            Some(seat) => vi_prop::encode(seat.regions()),
+            Some(place) => vi_prop::encode(self.endpoints.regions(place)),
         }
     }
 
@@ -81,23 +77,16 @@ impl Device {
         ensures aim { look_seen result ≡ look self.now.dev (id_at self.now.dev place) address }
         ensures flags { HasFlags result }
     {
-        self.look_for(self.at(place), address)
+        self.look_by(place, address, self.endpoints.domain(place))
     }
 
-    // The endpoint at this place.
-    pub(crate) fn at(&self, place: u32) -> &Seat
+    // What the address is found to be for the endpoint, which is in this domain or in none.
+    fn look_by(&self, place: u32, address: u64, membership: Membership) -> Aim
         requires { place < length self.now.dev.endpoints }
-        ensures { endpoint_of self.now.dev (id_at self.now.dev place) ≡ Some result.now }
-    {
-        &self.seats[place as usize]
-    }
-
-    // What the address is found to be for this endpoint.
-    fn look_for(&self, seat: &Seat, address: u64) -> Aim
-        ensures aim { look_seen result ≡ look_by self.now.dev address seat.now.regions seat.now.domain }
+        ensures aim { look_seen result ≡ look_by self.now.dev address (endpoint_at self.now.dev.endpoints place).regions membership }
         ensures flags { HasFlags result }
     {
-        match seat.domain() {
+        match membership {
             Membership::Unattached => if self.bypass {
                 Aim::Leads(address, 3)
             } else {
@@ -105,8 +94,26 @@ impl Device {
             },
             Membership::Member(domain) => match self.domains.find(domain) {
                 None => Aim::Nowhere(DOMAIN),
-                Some(held) => look_in_domain(address, seat, held),
+                Some(held) => self.look_in_domain(place, address, held),
             },
+        }
+    }
+
+    // What the address is found to be for the endpoint, which is in this domain.
+    fn look_in_domain(&self, place: u32, address: u64, held: &Held) -> Aim
+        requires { place < length self.now.dev.endpoints }
+        ensures aim { look_seen result ≡ look_in_domain address (endpoint_at self.now.dev.endpoints place).regions (Some (domain_seen held.now)) }
+        ensures flags { HasFlags result }
+    {
+        if held.bypass {
+            return Aim::Leads(address, 3);
+        }
+        if self.endpoints.keeps(place, address) {
+            return Aim::Nowhere(MAPPING);
+        }
+        match held.table.find(address) {
+            None => Aim::Nowhere(MAPPING),
+            Some(m) => Aim::Leads(m.target + (address - m.span.first), m.flags),
         }
     }
 
@@ -115,23 +122,6 @@ impl Device {
         ensures { result ≡ is_in_memory self.now.dev.pages address }
     {
         address / PAGE < u64::from(self.pages)
-    }
-}
-
-// What the address is found to be for an endpoint in this domain.
-fn look_in_domain(address: u64, seat: &Seat, held: &Held) -> Aim
-    ensures aim { look_seen result ≡ look_in_domain address seat.now.regions (Some (domain_seen held.now)) }
-    ensures flags { HasFlags result }
-{
-    if held.bypass {
-        return Aim::Leads(address, 3);
-    }
-    if seat.keeps(address) {
-        return Aim::Nowhere(MAPPING);
-    }
-    match held.table.find(address) {
-        None => Aim::Nowhere(MAPPING),
-        Some(m) => Aim::Leads(m.target + (address - m.span.first), m.flags),
     }
 }
 

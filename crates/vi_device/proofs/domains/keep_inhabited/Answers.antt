@@ -9,10 +9,10 @@ loop-place-preserved c =
     let place = c.loop-place.place in
     let out = c.index.result.now in
     let lt : place < length held = omega (arith, c.loop-place-test.true, c.len.ensures, c.loop-place.held.ok.0) in
-    let gone : is_inhabited c.args.seats.now (get_or held place out).id ≡ false = rw (← c.index.ensures) (sym c.if-is_inhabited.ensures) in
+    let gone : is_inhabited c.args.endpoints.now (get_or held place out).id ≡ false = rw (← c.index.ensures) (sym c.if-is_inhabited.ensures) in
     let empty = c.clear.ensures ∙ ap (λ h. record { mappings = []; maps = h.table.maps }) c.remove-table.ensures.value in
     record {
-      passed = rw c.remove-table.ensures.items (Passed-removed c.args.seats.now c.args.held.now.items held place out c.loop-place.invariant.passed lt gone);
+      passed = rw c.remove-table.ensures.items (Passed-removed c.args.endpoints.now c.args.held.now.items held place out c.loop-place.invariant.passed lt gone);
       tables = λ maps kept. rw (c.remove-table.ensures.items, c.push_reserved.ensures.items)
           (AreKept-removed maps held c.loop-place.unused.items place c.remove-table.result c.clear.new.self (c.loop-place.invariant.tables maps kept) lt empty);
       count = omega (arith, c.loop-place.invariant.count, c.remove-table.ensures.len, c.push_reserved.ensures.len);

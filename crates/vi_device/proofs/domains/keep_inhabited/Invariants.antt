@@ -5,7 +5,7 @@ use Rattle.vi_device.proofs.domains.keep_inhabited.Given as goal
 
 abbrev pub invariant-loop-place : goal.invariant-loop-place
 invariant-loop-place l = record {
-  passed : Passed l.seats l.initial.held.items l.held.items l.place;
+  passed : Passed l.endpoints l.initial.held.items l.held.items l.place;
   tables : (maps : ℕ) → AreKept maps l.initial.held.items l.initial.unused.items → AreKept maps l.held.items l.unused.items;
   count : vec_len l.held + vec_len l.unused ≡ 16;
   held_room : vec_capacity l.held ≡ vec_capacity l.initial.held;

@@ -1,5 +1,5 @@
 use Rattle.std.proofs.Common.{arith}
-use Rattle.vi_device.proofs.translation.look_in_domain.Goals as goal
+use Rattle.vi_device.proofs.device.Device.look_in_domain.Goals as goal
 
 pub overflow_sub-result : goal.overflow_sub-result
 overflow_sub-result c = omega (arith, c.in-Some.ensures.within.0)

@@ -1,8 +1,0 @@
-use Rattle.std.proofs.Common.{◌≡◌, ◌&&◌, drop}
-use Rattle.std.specs.List.{list_any}
-use Rattle.vi_history.specs.Device.{is_in}
-use Rattle.vi_history.specs.Statuses.{any_region_meets}
-use Rattle.vi_device.proofs.seats.keep_some_of.Given as goal
-
-abbrev pub invariant-loop-seat : goal.invariant-loop-seat
-invariant-loop-seat l = list_any (λ x. is_in l.domain x.domain && any_region_meets l.span x.regions) (drop l.seat-index l.seats) ≡ list_any (λ x. is_in l.domain x.domain && any_region_meets l.span x.regions) l.seats
