@@ -1,20 +1,18 @@
--- Words that are no form of the command line.
-use Rattle.std.proofs.Common.{◌≡◌, ◌<◌, List, [], ◌∷◌, String, length, None, refl, arith}
-use Rattle.viommu.specs.Command.{command_in}
+-- Words that are no form of `sim`.
+use Rattle.std.proofs.Common.{◌≡◌, ◌<◌, List, [], ◌∷◌, String, string_bytes, length, map, None, refl, arith}
+use Rattle.viommu.specs.Command.{sim_of}
 
--- only three words are a form
-pub command_in_short : {A : Type 0} (words : List (String A)) → length words < 3 → command_in words ≡ None
-command_in_short [] short = refl
-command_in_short (a ∷ []) short = refl
-command_in_short (a ∷ b ∷ []) short = refl
-command_in_short (a ∷ b ∷ c ∷ words) short = absurd (omega arith)
+-- only two words stand behind its name
+pub sim_of_short : {A : Type 0} (words : List (String A)) → length words < 2 → sim_of (map string_bytes words) ≡ None
+sim_of_short [] short = refl
+sim_of_short (a ∷ []) short = refl
+sim_of_short (a ∷ b ∷ words) short = absurd (omega arith)
 
-pub command_in_long : {A : Type 0} (words : List (String A)) → 3 < length words → command_in words ≡ None
-command_in_long [] long = refl
-command_in_long (a ∷ []) long = refl
-command_in_long (a ∷ b ∷ []) long = refl
-command_in_long (a ∷ b ∷ c ∷ []) long = absurd (omega arith)
-command_in_long (a ∷ b ∷ c ∷ d ∷ words) long = refl
+pub sim_of_long : {A : Type 0} (words : List (String A)) → 2 < length words → sim_of (map string_bytes words) ≡ None
+sim_of_long [] long = refl
+sim_of_long (a ∷ []) long = refl
+sim_of_long (a ∷ b ∷ []) long = absurd (omega arith)
+sim_of_long (a ∷ b ∷ c ∷ words) long = refl
 
--- what isn't three words is no form
-pub ruleset no_form = (command_in_short, command_in_long)
+-- what isn't two words is no form
+pub ruleset no_form = (sim_of_short, sim_of_long)

@@ -1,5 +1,5 @@
 -- How a call ends, from how its text was delivered, and what each status then says.
-use Rattle.std.proofs.Common.{◌≡◌, ◌≢◌, ◌≤◌, ◌<◌, ◌⊎◌, ℕ, List, [], length, Some, None, IsSome, refl, sym, ◌∙◌, ap, subst, inl, inr, arith}
+use Rattle.std.proofs.Common.{◌≡◌, ◌≢◌, ◌≤◌, ◌<◌, ◌⊎◌, ℕ, List, [], length, Some, None, IsSome, sym, ◌∙◌, ap, subst, inl, inr, arith}
 use Rattle.std.specs.declared.option.Option.{Option}
 use Rattle.std.specs.Io.KnownBytes.{Appends, Keeps}
 use Rattle.std.proofs.KnownBytes.{Appends-nil, Appends-kept}
@@ -7,14 +7,18 @@ use Rattle.viommu.specs.Causes.{Rose}
 use Rattle.viommu.specs.Input.{ReadsAll, IsPast}
 use Rattle.viommu.specs.Output.{TakesProperPrefix}
 use Rattle.viommu.specs.Status.{status_text}
-use Rattle.viommu.specs.Work.{Sims, ran, refused, spent, Does, sims}
-use Rattle.viommu.specs.Top.{Outside, Works, IsDue, usage, too_long, worked, IsFault, WritesReport, IsRefusedAt, IsSpentOn, CutsText, IsTooLongPast, IsRunWithin, IsRefusedWithin, Ends, delivered, cut, not_read, no_memory}
+use Rattle.viommu.specs.Accepted.{accepts}
+use Rattle.viommu.specs.OneThread.{one_thread}
+use Rattle.viommu.specs.Work.{Makes, makes, spends, Does, took, refused}
+use Rattle.viommu.specs.Top.{Outside, Works, IsDue, usage, too_long, worked, IsFault, Writes, IsRefusedAt, IsSpentOn, CutsText, IsTooLongPast, IsDone, IsDoneWithin, IsRefusedWithin, Ends, delivered, cut, not_read, no_memory}
+use Rattle.vi_order.proofs.Unmapped.{unmaps_hold}
+use Rattle.viommu.proofs.OneLemmas.{one_thread-legal, one_thread-records}
 use Rattle.vi_script.specs.Value.{ScriptValue}
 use Rattle.vi_script.specs.Texts.{Bad}
-use Rattle.viommu.specs.Runnable.{runnable}
 use Rattle.vi_script.specs.declared.fault.BadKind.{BadKind}
 use Rattle.std.specs.Prelude as std
 use Rattle.viommu.specs.declared.command.Command.{Command}
+use Rattle.viommu.specs.declared.command.Command.TheVariants.{Sim, One}
 use Rattle.viommu.specs.declared.status.Status.{Status}
 use Rattle.viommu.specs.declared.status.Status.TheVariants.{Ok, Usage, BadScript, TooLong, ReadFault, WriteFault, OutOfMemory, Spent}
 use Rattle.viommu.specs.declared.top.TheConstants.{INPUT_LIMIT}
@@ -38,13 +42,10 @@ IsWorkStatus (BadScript _ _) = Unit {0}
 IsWorkStatus Spent = Unit {0}
 IsWorkStatus _ = ⊥
 
-IsWorkStatus-sims : {input : List ℕ} {status : Status} {answer : List ℕ} → Sims input status answer → IsWorkStatus status
-IsWorkStatus-sims (ran s o is made typed of_run st a) = subst IsWorkStatus (sym st) tt
-IsWorkStatus-sims (refused bad is st a) = subst IsWorkStatus (sym st) tt
-IsWorkStatus-sims (spent s is made st a) = subst IsWorkStatus (sym st) tt
-
 IsWorkStatus-does : {form : Command} {input : List ℕ} {status : Status} {answer : List ℕ} → Does form input status answer → IsWorkStatus status
-IsWorkStatus-does (sims is d) = IsWorkStatus-sims d
+IsWorkStatus-does (took s is (makes text st)) = subst IsWorkStatus (sym st) tt
+IsWorkStatus-does (refused bad is st a) = subst IsWorkStatus (sym st) tt
+IsWorkStatus-does (took s is (spends sim made st a)) = subst IsWorkStatus (sym st) tt
 
 IsWorkStatus-works : {command : Option Command} {old new : Option (List ℕ)} {status : Status} {text : List ℕ} → Works command old new status text → IsWorkStatus status
 IsWorkStatus-works w = IsWorkStatus-does w.done
@@ -53,13 +54,10 @@ not_none : {command : Option Command} → IsSome command → command ≡ None �
 not_none some none = absurd (cc (subst IsSome none some))
 
 -- the text of a status that isn't Ok is its own
-sims_text : {input : List ℕ} {status : Status} {answer : List ℕ} → Sims input status answer → status ≢ Ok → answer ≡ status_text status
-sims_text (ran s o is made typed of_run st a) not_ok = absurd (not_ok st)
-sims_text (refused bad is st a) not_ok = a
-sims_text (spent s is made st a) not_ok = a
-
 does_text : {form : Command} {input : List ℕ} {status : Status} {answer : List ℕ} → Does form input status answer → status ≢ Ok → answer ≡ status_text status
-does_text (sims is d) not_ok = sims_text d not_ok
+does_text (took s is (makes text st)) not_ok = absurd (not_ok st)
+does_text (refused bad is st a) not_ok = a
+does_text (took s is (spends sim made st a)) not_ok = a
 
 due_text : {command : Option Command} {old new : Option (List ℕ)} {status : Status} {text : List ℕ} → IsDue command old new status text → status ≢ Ok → text ≡ status_text status
 due_text (usage none s t) not_ok = t ∙ ap status_text (sym s)
@@ -114,60 +112,75 @@ module _ (command : Option Command) (old new : Outside) (status : Status) where
   worked_out (not_read _ _ _ s) is = absurd (subst IsWorkStatus s is)
   worked_out (no_memory _ _ s) is = absurd (subst IsWorkStatus s is)
 
-  ok_sims : {input answer : List ℕ} → ReadsAll old.left new.left input → Appends old.taken new.taken answer → status ≡ Ok → Sims input status answer → WritesReport old.left new.left old.taken new.taken
-  ok_sims {input = input} read taken is (ran s o is_script made typed of_run st a) = record {
+  ok_made : (form : Command) (input answer : List ℕ) (s : ScriptValue) → ReadsAll old.left new.left input → Appends old.taken new.taken answer → accepts form input ≡ std.Ok s → Makes form s answer
+      → Writes form old.left new.left old.taken new.taken
+  ok_made Sim input answer s read taken is work = record {
     input = input;
     read = read;
     s = s;
-    is_script = is_script;
-    outcome = o;
-    made = made;
-    typed = typed;
-    of_run = of_run;
-    took = subst (λ (t : List ℕ). Appends old.taken new.taken t) a taken;
+    is_script = is;
+    outcome = work.outcome;
+    made = work.made;
+    typed = work.typed;
+    of_run = work.of_run;
+    took = subst (λ (t : List ℕ). Appends old.taken new.taken t) work.report taken;
   }
-  ok_sims read taken is (refused bad r st a) = absurd (cc (st, is))
-  ok_sims read taken is (spent s r made st a) = absurd (cc (st, is))
+  ok_made One input answer s read taken is work = record {
+    input = input;
+    read = read;
+    s = s;
+    is_script = is;
+    made = work.made;
+    typed = work.typed;
+    took = subst (λ (t : List ℕ). Appends old.taken new.taken t) work.report taken;
+    legal = one_thread-legal s;
+    records = one_thread-records s;
+    unmapped = unmaps_hold s (one_thread s).entries (one_thread-legal s);
+  }
 
-  ok_does : {form : Command} {input answer : List ℕ} → ReadsAll old.left new.left input → Appends old.taken new.taken answer → status ≡ Ok → Does form input status answer → WritesReport old.left new.left old.taken new.taken
-  ok_does read taken is (sims f d) = ok_sims read taken is d
+  ok_does : (form : Command) (input answer : List ℕ) → ReadsAll old.left new.left input → Appends old.taken new.taken answer → status ≡ Ok → Does form input status answer → Writes form old.left new.left old.taken new.taken
+  ok_does form input answer read taken is (took s accepted (makes text st)) = ok_made form input answer s read taken accepted text
+  ok_does form input answer read taken is (refused bad r st a) = absurd (cc (st, is))
+  ok_does form input answer read taken is (took s r (spends sim made st a)) = absurd (cc (st, is))
 
-  pub report_written : Ends command old new status → status ≡ Ok → WritesReport old.left new.left old.taken new.taken
-  report_written ends is =
+  -- the work is that of the command that was asked
+  form_works : {text : List ℕ} (form : Command) → command ≡ Some form → (w : Works command old.left new.left status text) → Does form w.input status text
+  form_works {text = text} form is w =
+      let same : w.form ≡ form = cc (w.is_form, is) in
+      subst (λ (f : Command). Does f w.input status text) same w.done
+
+  pub text_written : Ends command old new status → (form : Command) → command ≡ Some form → status ≡ Ok → Writes form old.left new.left old.taken new.taken
+  text_written ends form asked is =
       let w = worked_out ends (subst IsWorkStatus (sym is) tt) in
       let works : Works command old.left new.left status w.0 = w.1 in
-      ok_does works.read w.2 is works.done
+      ok_does form works.input w.0 works.read w.2 is (form_works form asked works)
 
-  bad_sims : (line : ℕ) (kind : BadKind) {input answer : List ℕ} → ReadsAll old.left new.left input → status ≡ BadScript line kind → Sims input status answer → IsRefusedAt line kind old.left new.left
-  bad_sims line kind read is (ran s o r made typed of_run st a) = absurd (cc (st, is))
-  bad_sims line kind {input = input} read is (refused bad r st a) =
+  bad_does : (form : Command) (line : ℕ) (kind : BadKind) {input answer : List ℕ} → ReadsAll old.left new.left input → status ≡ BadScript line kind → Does form input status answer → IsRefusedAt form line kind old.left new.left
+  bad_does form line kind read is (took s accepted (makes text st)) = absurd (cc (st, is))
+  bad_does form line kind {input = input} read is (refused bad r st a) =
       let l : bad.line ≡ line = cc (st, is) in
       let k : bad.kind ≡ kind = cc (st, is) in
       record { input = input; read = read; refused = r ∙ (λ i. std.Err (record { line = l i; kind = k i })) }
-  bad_sims line kind read is (spent s r made st a) = absurd (cc (st, is))
+  bad_does form line kind read is (took s r (spends sim made st a)) = absurd (cc (st, is))
 
-  bad_does : {form : Command} (line : ℕ) (kind : BadKind) {input answer : List ℕ} → ReadsAll old.left new.left input → status ≡ BadScript line kind → Does form input status answer → IsRefusedAt line kind old.left new.left
-  bad_does line kind read is (sims f d) = bad_sims line kind read is d
-
-  pub refused_only : Ends command old new status → (line : ℕ) (kind : BadKind) → status ≡ BadScript line kind → IsRefusedAt line kind old.left new.left
-  refused_only ends line kind is =
+  pub refused_only : Ends command old new status → (form : Command) (line : ℕ) (kind : BadKind) → command ≡ Some form → status ≡ BadScript line kind → IsRefusedAt form line kind old.left new.left
+  refused_only ends form line kind asked is =
       let w = worked_out ends (subst IsWorkStatus (sym is) tt) in
       let works : Works command old.left new.left status w.0 = w.1 in
-      bad_does line kind works.read is works.done
+      bad_does form line kind works.read is (form_works form asked works)
 
-  spent_sims : {input answer : List ℕ} → ReadsAll old.left new.left input → status ≡ Spent → Sims input status answer → IsSpentOn old.left new.left
-  spent_sims read is (ran s o r made typed of_run st a) = absurd (cc (st, is))
-  spent_sims read is (refused bad r st a) = absurd (cc (st, is))
-  spent_sims {input = input} read is (spent s r made st a) = record { input = input; read = read; s = s; is_script = r; spent = made }
+  spent_does : (form : Command) {input answer : List ℕ} → ReadsAll old.left new.left input → status ≡ Spent → Does form input status answer → (form ≡ Sim) × IsSpentOn old.left new.left
+  spent_does form read is (took s accepted (makes text st)) = absurd (cc (st, is))
+  spent_does form read is (refused bad r st a) = absurd (cc (st, is))
+  spent_does form {input = input} read is (took s r (spends sim made st a)) =
+      (sim, record { input = input; read = read; s = s; is_script = subst (λ (f : Command). accepts f input ≡ std.Ok s) sim r; spent = made })
 
-  spent_does : {form : Command} {input answer : List ℕ} → ReadsAll old.left new.left input → status ≡ Spent → Does form input status answer → IsSpentOn old.left new.left
-  spent_does read is (sims f d) = spent_sims read is d
-
-  pub spent_only : Ends command old new status → status ≡ Spent → IsSpentOn old.left new.left
+  pub spent_only : Ends command old new status → status ≡ Spent → (command ≡ Some Sim) × IsSpentOn old.left new.left
   spent_only ends is =
       let w = worked_out ends (subst IsWorkStatus (sym is) tt) in
       let works : Works command old.left new.left status w.0 = w.1 in
-      spent_does works.read is works.done
+      let on = spent_does works.form works.read is works.done in
+      (works.is_form ∙ ap (λ (f : Command). Some f) on.0, on.1)
 
   pub read_fault_rose : Ends command old new status → status ≡ ReadFault → Rose old.read_faults new.read_faults
   read_fault_rose (delivered text (usage _ s _) _) is = absurd (cc (s, is))
@@ -214,33 +227,35 @@ module _ (command : Option Command) (input : List ℕ) (left_new : Option (List 
       let same : w.form ≡ form = cc (w.is_form, is) in
       subst (λ (i : List ℕ). Does form i status text) (told_input input w) (subst (λ (f : Command). Does f w.input status text) same w.done)
 
-run_sims : {input answer : List ℕ} {status : Status} (s : ScriptValue) → runnable input ≡ std.Ok s → Sims input status answer → (status ≡ Ok) ⊎ ((status ≡ Spent) ⊎ IsFault status)
-run_sims s is (ran _ o r made typed of_run st a) = inl st
-run_sims s is (refused bad r st a) = absurd (cc (is, r))
-run_sims s is (spent _ r made st a) = inr (inl st)
+made_done : (form : Command) {status : Status} → status ≡ Ok → IsDone form status
+made_done Sim is = inl is
+made_done One is = is
 
-run_does : {form : Command} {input answer : List ℕ} {status : Status} (s : ScriptValue) → runnable input ≡ std.Ok s → Does form input status answer → (status ≡ Ok) ⊎ ((status ≡ Spent) ⊎ IsFault status)
-run_does s is (sims f d) = run_sims s is d
+spent_done : (form : Command) {status : Status} → form ≡ Sim → status ≡ Spent → IsDone form status
+spent_done Sim sim is = inr is
+spent_done One sim is = absurd (cc sim)
 
-refused_sims : {input answer : List ℕ} {status : Status} (bad : Bad) → runnable input ≡ std.Err bad → Sims input status answer → (status ≡ BadScript bad.line bad.kind) ⊎ IsFault status
-refused_sims bad is (ran _ o r made typed of_run st a) = absurd (cc (is, r))
-refused_sims bad is (refused other r st a) =
+done_does : {form : Command} {input answer : List ℕ} {status : Status} (s : ScriptValue) → accepts form input ≡ std.Ok s → Does form input status answer → IsDone form status ⊎ IsFault status
+done_does {form = form} s is (took _ accepted (makes text st)) = inl (made_done form st)
+done_does s is (refused bad r st a) = absurd (cc (is, r))
+done_does {form = form} s is (took _ r (spends sim made st a)) = inl (spent_done form sim st)
+
+refused_does : {form : Command} {input answer : List ℕ} {status : Status} (bad : Bad) → accepts form input ≡ std.Err bad → Does form input status answer → (status ≡ BadScript bad.line bad.kind) ⊎ IsFault status
+refused_does bad is (took _ accepted (makes text st)) = absurd (cc (is, accepted))
+refused_does bad is (refused other r st a) =
     let same : other ≡ bad = cc (is, r) in
     inl (st ∙ ap (λ (b : Bad). BadScript b.line b.kind) same)
-refused_sims bad is (spent _ r made st a) = absurd (cc (is, r))
-
-refused_does : {form : Command} {input answer : List ℕ} {status : Status} (bad : Bad) → runnable input ≡ std.Err bad → Does form input status answer → (status ≡ BadScript bad.line bad.kind) ⊎ IsFault status
-refused_does bad is (sims f d) = refused_sims bad is d
+refused_does bad is (took _ r (spends sim made st a)) = absurd (cc (is, r))
 
 too_long_from_due : (command : Option Command) (left new : Option (List ℕ)) (status : Status) {text : List ℕ} → IsDue command left new status text → IsSome command → IsTooLongPast left status
 too_long_from_due command None new status due some = tt
 too_long_from_due command (Some input) new status due some = λ past. inl (due_past command input new status due some past)
 
-run_from_due : (form : Command) (command : Option Command) (left new : Option (List ℕ)) (status : Status) {text : List ℕ} → IsDue command left new status text → command ≡ Some form → IsRunWithin left status
-run_from_due form command None new status due is = tt
-run_from_due form command (Some input) new status due is = λ within s is_script. run_does s is_script (due_does command input new status form due is within)
+done_from_due : (form : Command) (command : Option Command) (left new : Option (List ℕ)) (status : Status) {text : List ℕ} → IsDue command left new status text → command ≡ Some form → IsDoneWithin form left status
+done_from_due form command None new status due is = tt
+done_from_due form command (Some input) new status due is = λ within s is_script. done_does s is_script (due_does command input new status form due is within)
 
-refused_from_due : (form : Command) (command : Option Command) (left new : Option (List ℕ)) (status : Status) {text : List ℕ} → IsDue command left new status text → command ≡ Some form → IsRefusedWithin left status
+refused_from_due : (form : Command) (command : Option Command) (left new : Option (List ℕ)) (status : Status) {text : List ℕ} → IsDue command left new status text → command ≡ Some form → IsRefusedWithin form left status
 refused_from_due form command None new status due is = tt
 refused_from_due form command (Some input) new status due is = λ within bad is_bad. refused_does bad is_bad (due_does command input new status form due is within)
 
@@ -248,13 +263,13 @@ too_long_from_fault : (left : Option (List ℕ)) (fault status : Status) → sta
 too_long_from_fault None fault status is f = tt
 too_long_from_fault (Some input) fault status is f = λ past. inr (IsFault-from fault status is f)
 
-run_from_fault : (left : Option (List ℕ)) (fault status : Status) → status ≡ fault → IsFault fault → IsRunWithin left status
-run_from_fault None fault status is f = tt
-run_from_fault (Some input) fault status is f = λ within s is_script. inr (inr (IsFault-from fault status is f))
+done_from_fault : (form : Command) (left : Option (List ℕ)) (fault status : Status) → status ≡ fault → IsFault fault → IsDoneWithin form left status
+done_from_fault form None fault status is f = tt
+done_from_fault form (Some input) fault status is f = λ within s is_script. inr (IsFault-from fault status is f)
 
-refused_from_fault : (left : Option (List ℕ)) (fault status : Status) → status ≡ fault → IsFault fault → IsRefusedWithin left status
-refused_from_fault None fault status is f = tt
-refused_from_fault (Some input) fault status is f = λ within bad is_bad. inr (IsFault-from fault status is f)
+refused_from_fault : (form : Command) (left : Option (List ℕ)) (fault status : Status) → status ≡ fault → IsFault fault → IsRefusedWithin form left status
+refused_from_fault form None fault status is f = tt
+refused_from_fault form (Some input) fault status is f = λ within bad is_bad. inr (IsFault-from fault status is f)
 
 module _ (command : Option Command) (old new : Outside) (status : Status) where
   pub too_long_or_fault : Ends command old new status → IsSome command → IsTooLongPast old.left status
@@ -263,29 +278,15 @@ module _ (command : Option Command) (old new : Outside) (status : Status) where
   too_long_or_fault (not_read _ _ _ s) some = too_long_from_fault old.left ReadFault status s tt
   too_long_or_fault (no_memory _ _ s) some = too_long_from_fault old.left OutOfMemory status s tt
 
-  run_of : (form : Command) → Ends command old new status → command ≡ Some form → IsRunWithin old.left status
-  run_of form (delivered text due _) is = run_from_due form command old.left new.left status due is
-  run_of form (cut _ _ s) is = run_from_fault old.left WriteFault status s tt
-  run_of form (not_read _ _ _ s) is = run_from_fault old.left ReadFault status s tt
-  run_of form (no_memory _ _ s) is = run_from_fault old.left OutOfMemory status s tt
+  -- a script is worked on, and a text that is none is refused, unless a fault comes
+  pub done_or_fault : Ends command old new status → (form : Command) → command ≡ Some form → IsDoneWithin form old.left status
+  done_or_fault (delivered text due _) form is = done_from_due form command old.left new.left status due is
+  done_or_fault (cut _ _ s) form is = done_from_fault form old.left WriteFault status s tt
+  done_or_fault (not_read _ _ _ s) form is = done_from_fault form old.left ReadFault status s tt
+  done_or_fault (no_memory _ _ s) form is = done_from_fault form old.left OutOfMemory status s tt
 
-  refused_of : (form : Command) → Ends command old new status → command ≡ Some form → IsRefusedWithin old.left status
-  refused_of form (delivered text due _) is = refused_from_due form command old.left new.left status due is
-  refused_of form (cut _ _ s) is = refused_from_fault old.left WriteFault status s tt
-  refused_of form (not_read _ _ _ s) is = refused_from_fault old.left ReadFault status s tt
-  refused_of form (no_memory _ _ s) is = refused_from_fault old.left OutOfMemory status s tt
-
-some_form : {A : Type 0} (o : Option A) → IsSome o → (x : A) × (o ≡ Some x)
-some_form None some = absurd cc
-some_form (Some x) some = (x, refl)
-
--- a script is run, and a text that is none is refused, unless a fault comes
-pub run_or_fault : (command : Option Command) (old new : Outside) (status : Status) → Ends command old new status → IsSome command → IsRunWithin old.left status
-run_or_fault command old new status ends some =
-    let form = some_form command some in
-    run_of command old new status form.0 ends form.1
-
-pub refused_or_fault : (command : Option Command) (old new : Outside) (status : Status) → Ends command old new status → IsSome command → IsRefusedWithin old.left status
-refused_or_fault command old new status ends some =
-    let form = some_form command some in
-    refused_of command old new status form.0 ends form.1
+  pub refused_or_fault : Ends command old new status → (form : Command) → command ≡ Some form → IsRefusedWithin form old.left status
+  refused_or_fault (delivered text due _) form is = refused_from_due form command old.left new.left status due is
+  refused_or_fault (cut _ _ s) form is = refused_from_fault form old.left WriteFault status s tt
+  refused_or_fault (not_read _ _ _ s) form is = refused_from_fault form old.left ReadFault status s tt
+  refused_or_fault (no_memory _ _ s) form is = refused_from_fault form old.left OutOfMemory status s tt

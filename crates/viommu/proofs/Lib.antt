@@ -4,3 +4,7 @@ pub mod KnownBytesLemmas
 pub mod Moved
 pub mod Numerals
 pub mod WorkLemmas
+pub mod TakenLemmas
+pub mod ReplyLemmas
+pub mod OneLemmas
+pub mod CountLemmas

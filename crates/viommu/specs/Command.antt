@@ -4,7 +4,7 @@ use Rattle.std.specs.declared.option.Option.{Option}
 use Rattle.std.specs.Str.{bytes_eq}
 use Rattle.viommu.specs.Words.{number_of}
 use Rattle.viommu.specs.declared.command.Command.{Command}
-use Rattle.viommu.specs.declared.command.Command.TheVariants.{Sim}
+use Rattle.viommu.specs.declared.command.Command.TheVariants.{Sim, One}
 
 -- there is a number, and it is 0
 abbrev pub holds_zero : Option ℕ → Bool
@@ -15,10 +15,26 @@ holds_zero (Some n) = n == 0
 abbrev pub word_is_zero : List ℕ → Bool
 word_is_zero word = holds_zero (number_of word)
 
--- the command whose form the words are: `sim 0 0`
+-- `sim 0 0`: the words behind `sim`
+abbrev pub sim_of : List (List ℕ) → Option Command
+sim_of (seed ∷ turns ∷ []) = if word_is_zero seed && word_is_zero turns then Some Sim else None
+sim_of words = None
+
+-- a command whose name stands alone: no word is behind it
+abbrev pub alone : Command → List (List ℕ) → Option Command
+alone command [] = Some command
+alone command words = None
+
+-- a command by its name and the words behind it
+abbrev pub named : List ℕ → List (List ℕ) → Option Command
+named name words =
+    if bytes_eq name (codes "sim") then sim_of words else (
+    if bytes_eq name (codes "one") then alone One words else None)
+
+-- the command whose form the words are
 abbrev pub command_of : List (List ℕ) → Option Command
-command_of (name ∷ seed ∷ turns ∷ []) = if bytes_eq name (codes "sim") && word_is_zero seed && word_is_zero turns then Some Sim else None
-command_of words = None
+command_of [] = None
+command_of (name ∷ words) = named name words
 
 -- the command whose form these texts are
 abbrev pub command_in : {A : Type 0} → List (String A) → Option Command

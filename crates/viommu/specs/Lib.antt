@@ -10,3 +10,7 @@ pub mod Top
 pub mod Words
 pub mod Runnable
 pub mod Work
+pub mod Counts
+pub mod Made
+pub mod OneThread
+pub mod Accepted

@@ -29,7 +29,7 @@ bad_script_text line kind = line_of (codes "bad script line " ++ decimal line ++
 -- or want of memory none.
 abbrev pub status_text : Status → List ℕ
 status_text Ok = []
-status_text Usage = line_of (codes "usage: viommu sim 0 0")
+status_text Usage = line_of (codes "usage: viommu sim 0 0 | one")
 status_text (BadScript line kind) = bad_script_text line kind
 status_text TooLong = line_of (codes "input too long")
 status_text ReadFault = []

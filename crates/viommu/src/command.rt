@@ -1,6 +1,6 @@
 //! The forms of the command line.
-ghost use Rattle.std.specs.Prelude.{◌≡◌};
-ghost use Rattle.viommu.specs.Command.{command_in, word_is_zero};
+ghost use Rattle.std.specs.Prelude.{◌≡◌, map, string_bytes};
+ghost use Rattle.viommu.specs.Command.{alone, command_in, named, sim_of, word_is_zero};
 
 use crate::words::number;
 
@@ -10,20 +10,51 @@ pub enum Command {
     /// `sim 0 0`: a script is read from standard input and run, and the report of the run is
     /// written.
     Sim,
+    /// `one`: the one-thread device without caches replies to a script's lines in the order of the
+    /// text, and the report of its replies is written.
+    One,
 }
 
 impl Command {
     /// The command whose form the words are, without the program's name, or `None`.
-    #[tactic(auto, using(crate::proofs::CommandLemmas::no_form))]
     pub fn parse(words: &[String]) -> Option<Command>
         ensures { result ≡ command_in words.now }
     {
-        match words {
-            [name, seed, turns] if name.as_str() == "sim" && is_zero(seed) && is_zero(turns) => {
-                Some(Command::Sim)
-            }
-            _ => None,
+        match words.split_first() {
+            Some((name, behind)) => named(name.as_str(), behind),
+            None => None,
         }
+    }
+}
+
+/// A command by its name and the words behind it.
+fn named(name: &str, behind: &[String]) -> Option<Command>
+    ensures { result ≡ named name.now (map string_bytes behind.now) }
+{
+    match name {
+        "sim" => sim_of(behind),
+        "one" => alone(Command::One, behind),
+        _ => None,
+    }
+}
+
+#[tactic(auto, using(crate::proofs::CommandLemmas::no_form))]
+fn sim_of(behind: &[String]) -> Option<Command>
+    ensures { result ≡ sim_of (map string_bytes behind.now) }
+{
+    match behind {
+        [seed, turns] if is_zero(seed) && is_zero(turns) => Some(Command::Sim),
+        _ => None,
+    }
+}
+
+fn alone(command: Command, behind: &[String]) -> Option<Command>
+    ensures { result ≡ alone command (map string_bytes behind.now) }
+{
+    if behind.is_empty() {
+        Some(command)
+    } else {
+        None
     }
 }
 

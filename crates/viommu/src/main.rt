@@ -1,11 +1,16 @@
 //! The program `viommu`: a Virtio IOMMU device with caching back ends, run by scripts.
 #![tactic(auto)]
 
+#[cfg(test)]
+mod cases;
 mod command;
+mod counts;
+mod course;
 mod deliver;
 mod input;
 mod list_sink;
 mod list_source;
+mod one;
 mod output;
 mod outside;
 mod run;

@@ -26,7 +26,7 @@ pub enum Status {
     Spent,
 }
 
-pub(crate) const USAGE: &[u8] = b"usage: viommu sim 0 0\n";
+pub(crate) const USAGE: &[u8] = b"usage: viommu sim 0 0 | one\n";
 
 pub(crate) const TOO_LONG: &[u8] = b"input too long\n";
 

@@ -1,4 +1,5 @@
 //! What no clause says: calls with ample memory, faults in mid-stream, and the adapters.
+use crate::cases::ONE;
 use crate::input::{InputFault, read_input};
 use crate::list_sink::ListSink;
 use crate::list_source::ListSource;
@@ -96,7 +97,25 @@ fn reports_and_refusals(rt: HostRuntime) -> Result<(), Fail> {
             refused(2, BadKind::NotYet),
             b"bad script line 2: notyet\n",
         ),
-        ("sim 1 0", FIRST, Status::Usage, b"usage: viommu sim 0 0\n"),
+        ("one", FIRST, Status::Ok, FIRST_REPORT),
+        (
+            "one",
+            b"memory 1\nqueue 17",
+            refused(2, BadKind::Limit),
+            b"bad script line 2: limit\n",
+        ),
+        (
+            "one two",
+            FIRST,
+            Status::Usage,
+            b"usage: viommu sim 0 0 | one\n",
+        ),
+        (
+            "sim 1 0",
+            FIRST,
+            Status::Usage,
+            b"usage: viommu sim 0 0 | one\n",
+        ),
     ];
     for (line, input, want, text) in cases {
         let (status, taken) = ran(alloc, line, input, &[], 999, &[])?;
@@ -106,11 +125,44 @@ fn reports_and_refusals(rt: HostRuntime) -> Result<(), Fail> {
     Ok(())
 }
 
+/// The bytes without their last LF.
+fn trimmed(bytes: &[u8]) -> &[u8] {
+    match bytes.strip_suffix(b"\n") {
+        Some(front) => front,
+        None => bytes,
+    }
+}
+
+/// The script of a case, behind its name.
+fn script_of(head: &str) -> &str {
+    match head.split_once('\n') {
+        Some((_name, script)) => script,
+        None => "",
+    }
+}
+
+/// Whether `one` writes the text of the case for its script.
+fn is_written(alloc: Global, case: &str) -> Result<bool, Fail> {
+    let Some((head, text)) = case.split_once("\nwrites\n") else {
+        return Ok(false);
+    };
+    let (_, taken) = ran(alloc, "one", script_of(head).as_bytes(), &[], 9999, &[])?;
+    Ok(trimmed(taken.as_slice()) == trimmed(text.as_bytes()))
+}
+
+#[test]
+fn one_replies_as_the_standard_says(rt: HostRuntime) -> Result<(), Fail> {
+    for case in ONE.split("\ncase ") {
+        assert!(rt; is_written(rt.alloc(), case)?, "{case}");
+    }
+    Ok(())
+}
+
 #[test]
 fn too_long_input_is_refused(rt: HostRuntime) -> Result<(), Fail> {
     let alloc = rt.alloc();
     let input = vec![in alloc; b'#'; 1048577]?;
-    let (status, taken) = ran(alloc, "sim 0 0", &input, &[], 999, &[])?;
+    let (status, taken) = ran(alloc, "one", &input, &[], 999, &[])?;
     assert_eq!(rt; status, Status::TooLong);
     assert_eq!(rt; taken.as_slice(), b"input too long\n".as_slice());
     Ok(())
@@ -176,7 +228,7 @@ fn status_numbers_and_texts(rt: HostRuntime) -> Result<(), Fail> {
     };
     let cases = [
         (Status::Ok, 0, b"".as_slice()),
-        (Status::Usage, 2, b"usage: viommu sim 0 0\n"),
+        (Status::Usage, 2, b"usage: viommu sim 0 0 | one\n"),
         (refused, 3, b"bad script line 10000: notyet\n"),
         (Status::TooLong, 4, b"input too long\n"),
         (Status::ReadFault, 5, b""),

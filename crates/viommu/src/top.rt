@@ -5,7 +5,7 @@ ghost use Rattle.viommu.specs.Causes.{Rose};
 ghost use Rattle.viommu.specs.Command.{command_in};
 ghost use Rattle.viommu.specs.Input.{IsPast, TakesAtMost};
 ghost use Rattle.viommu.specs.Status.{status_text};
-ghost use Rattle.viommu.specs.Top.{CutsText, Ends, IsRefusedAt, IsRefusedWithin, IsRunWithin, IsSpentOn, IsTooLongPast, WritesReport};
+ghost use Rattle.viommu.specs.Top.{CutsText, Ends, IsDoneWithin, IsRefusedAt, IsRefusedWithin, IsSpentOn, IsTooLongPast, Writes};
 ghost use Rattle.vi_script.specs.declared.fault.BadKind.{BadKind};
 
 use crate::command::Command;
@@ -38,20 +38,20 @@ pub fn plain_top<S: Source, K: Sink>(
     ensures too_long_always { IsSome (command_in words.now)
         → IsTooLongPast (S.left source.old) result }
 
-    // With Ok the source was read to its end, the bytes are a script, and the sink took the report of one outcome.
-    ensures ok { result ≡ Status.Ok → WritesReport
+    // With Ok the source was read to its end, the bytes are a script, and the sink took what the command writes.
+    ensures ok { (command : Command) → command_in words.now ≡ Some command → result ≡ Status.Ok → Writes command
         (S.left source.old) (S.left source.new) (K.taken sink.old) (K.taken sink.new) }
 
-    // A script that is within the limit is run, unless a fault comes.
-    ensures accepted { IsSome (command_in words.now) → IsRunWithin (S.left source.old) result }
+    // The work on a script that is within the limit is done, unless a fault comes.
+    ensures accepted { (command : Command) → command_in words.now ≡ Some command → IsDoneWithin command (S.left source.old) result }
 
     // The script is refused with this line and kind exactly where the definition refuses it so, unless a fault comes.
-    ensures bad_script { (line : ℕ) (kind : BadKind) → result ≡ Status.BadScript line kind
-        → IsRefusedAt line kind (S.left source.old) (S.left source.new) }
-    ensures bad_script_always { IsSome (command_in words.now) → IsRefusedWithin (S.left source.old) result }
+    ensures bad_script { (command : Command) (line : ℕ) (kind : BadKind) → command_in words.now ≡ Some command
+        → result ≡ Status.BadScript line kind → IsRefusedAt command line kind (S.left source.old) (S.left source.new) }
+    ensures bad_script_always { (command : Command) → command_in words.now ≡ Some command → IsRefusedWithin command (S.left source.old) result }
 
     // With Spent the bytes are a script, the budget of rounds was made, and its lines aren't finished.
-    ensures spent { result ≡ Status.Spent → IsSpentOn (S.left source.old) (S.left source.new) }
+    ensures spent { result ≡ Status.Spent → (command_in words.now ≡ Some Command.Sim) × IsSpentOn (S.left source.old) (S.left source.new) }
 
     // A fault comes only where the source's or the sink's count of faults rose in this call.
     ensures read_fault { result ≡ Status.ReadFault

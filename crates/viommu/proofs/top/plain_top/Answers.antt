@@ -1,4 +1,4 @@
-use Rattle.viommu.proofs.EndLemmas.{usage_only, usage_or_fault, past_only, too_long_or_fault, report_written, run_or_fault, refused_only, refused_or_fault, spent_only, read_fault_rose, write_fault_rose, refusal_text, text_cut}
+use Rattle.viommu.proofs.EndLemmas.{usage_only, usage_or_fault, past_only, too_long_or_fault, text_written, done_or_fault, refused_only, refused_or_fault, spent_only, read_fault_rose, write_fault_rose, refusal_text, text_cut}
 use Rattle.viommu.proofs.top.plain_top.Goals as goal
 
 pub returns-clause-usage : goal.returns-clause-usage
@@ -14,19 +14,19 @@ pub returns-clause-too_long_always : goal.returns-clause-too_long_always
 returns-clause-too_long_always g c = rw (← c.parse.ensures) (too_long_or_fault _ _ _ _ c.carry_out.ensures.ends)
 
 pub returns-clause-ok : goal.returns-clause-ok
-returns-clause-ok g c = report_written _ _ _ _ c.carry_out.ensures.ends
+returns-clause-ok g c = rw (← c.parse.ensures) (text_written _ _ _ _ c.carry_out.ensures.ends)
 
 pub returns-clause-accepted : goal.returns-clause-accepted
-returns-clause-accepted g c = rw (← c.parse.ensures) (run_or_fault _ _ _ _ c.carry_out.ensures.ends)
+returns-clause-accepted g c = rw (← c.parse.ensures) (done_or_fault _ _ _ _ c.carry_out.ensures.ends)
 
 pub returns-clause-bad_script : goal.returns-clause-bad_script
-returns-clause-bad_script g c = refused_only _ _ _ _ c.carry_out.ensures.ends
+returns-clause-bad_script g c = rw (← c.parse.ensures) (refused_only _ _ _ _ c.carry_out.ensures.ends)
 
 pub returns-clause-bad_script_always : goal.returns-clause-bad_script_always
 returns-clause-bad_script_always g c = rw (← c.parse.ensures) (refused_or_fault _ _ _ _ c.carry_out.ensures.ends)
 
 pub returns-clause-spent : goal.returns-clause-spent
-returns-clause-spent g c = spent_only _ _ _ _ c.carry_out.ensures.ends
+returns-clause-spent g c = rw (← c.parse.ensures) (spent_only _ _ _ _ c.carry_out.ensures.ends)
 
 pub returns-clause-read_fault : goal.returns-clause-read_fault
 returns-clause-read_fault g c = read_fault_rose _ _ _ _ c.carry_out.ensures.ends
