@@ -1,3 +1,5 @@
 pub mod Insertions
 pub mod Granules
 pub mod Readings
+pub mod Domains
+pub mod Outcomes

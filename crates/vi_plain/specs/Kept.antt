@@ -1,7 +1,8 @@
--- What a plain device keeps true of its mappings, and so of where an address leads.
-use Rattle.std.specs.Prelude.{◌≡◌, ℕ, ◌+◌, ◌-◌, ◌/◌, ◌%◌, ◌^◌, ◌<◌}
+-- What a plain device keeps true of its domains and mappings, and so of where an address leads.
+use Rattle.std.specs.Prelude.{◌≡◌, ℕ, ◌+◌, ◌-◌, ◌/◌, ◌%◌, ◌^◌, ◌<◌, ◌≢◌, List, AllPairs}
 use Rattle.vi_bytes.specs.declared.lease.Mapping.{Mapping}
 use Rattle.vi_bytes.specs.declared.span.TheConstants.{PAGE}
+use Rattle.vi_history.specs.Device.{Domain}
 use Rattle.vi_history.specs.declared.found.Found.{Found}
 use Rattle.vi_history.specs.declared.found.Found.TheVariants.{At, Fault}
 
@@ -15,6 +16,10 @@ pub record IsSound (m : Mapping) : Type 0 where
 pub record IsGranule (granule : ℕ) : Type 0 where
   pub some : 0 < granule
   pub pages : granule % PAGE ≡ 0
+
+-- no two of the domains have the same id
+abbrev pub HaveOwnIds : List Domain → Type 0
+HaveOwnIds domains = AllPairs (λ y z. y.id ≢ z.id) domains
 
 -- an address leads into the memory, and to the same place of a page
 abbrev pub KeepsOffset : ℕ → ℕ → Found → Type 0

@@ -31,7 +31,7 @@ pub struct Device {
 
 impl Model for Device {
     ghost use Rattle.vi_history.specs.Device.{Dev};
-    ghost use Rattle.vi_plain.specs.Kept.{IsGranule};
+    ghost use Rattle.vi_plain.specs.Kept.{IsGranule, HaveOwnIds};
 
     ghost Value = { Dev };
 
@@ -44,7 +44,7 @@ impl Model for Device {
       domains = d.domains.items;
     } };
 
-    ghost invariant = { λ d. IsGranule d.granule };
+    ghost invariant = { λ d. IsGranule d.granule × HaveOwnIds d.domains.items };
 }
 
 impl Device {

@@ -1,5 +1,5 @@
 //! A domain: its mappings by rising address.
-ghost use Rattle.std.specs.Prelude.{◌≡◌, [], nat_le, IfOk, IfSome, IsTrue};
+ghost use Rattle.std.specs.Prelude.{◌≡◌, [], nat_le, OnOk, OnErr, IfSome, IsTrue};
 ghost use Rattle.std.specs.List.{prefix_len};
 ghost use Rattle.std.specs.Option.{option_copied};
 ghost use Rattle.vi_bytes.specs.Mappings.{mapping_at, with_mapping, without_span};
@@ -43,18 +43,14 @@ fn place_of(mappings: &[Mapping], first: u64) -> usize
         .count()
 }
 
-// The mappings with one more, by rising address.
-fn inserted(
-    alloc: Global,
-    mappings: &[Mapping],
-    mapping: Mapping,
-) -> Result<Vec<Mapping>, AllocError>
-    ensures { IfOk result (λ v. v.items ≡ with_mapping mapping mappings.now) }
+// Puts one more among the mappings, by rising address.
+fn insert(mappings: &mut Vec<Mapping>, mapping: Mapping) -> Result<(), AllocError>
+    ensures ok { OnOk result (mappings.new.items ≡ with_mapping mapping mappings.old.items) }
+    ensures err { OnErr result (mappings.new.items ≡ mappings.old.items) }
 {
     let place = place_of(mappings, mapping.span.first);
-    let mut more = Vec::from_slice(alloc, mappings)?;
-    more.insert(place, mapping)?;
-    Ok(more)
+    mappings.insert(place, mapping)?;
+    Ok(())
 }
 
 // Removes the mappings that lie in the span.
@@ -122,21 +118,13 @@ impl Domain {
         self.mappings.iter().find(|m| m.span.contains(address))
     }
 
-    /// A copy of the domain, with one more mapping if it has this id. An error is want of memory.
-    pub fn mapped_if(&self, alloc: Global, id: u32, mapping: Mapping) -> Result<Domain, AllocError>
+    /// Adds a mapping. An error is want of memory, and changes nothing.
+    pub fn map(&mut self, mapping: Mapping) -> Result<(), AllocError>
         requires { IsSound mapping }
-        ensures { IfOk result (λ y. y ≡ changed_if id (with_mapping mapping) self.now) }
+        ensures ok { OnOk result (self.new ≡ record self.old { mappings = with_mapping mapping self.old.mappings }) }
+        ensures err { OnErr result (self.new ≡ self.old) }
     {
-        let mappings = if self.id == id {
-            inserted(alloc, &self.mappings, mapping)?
-        } else {
-            Vec::from_slice(alloc, &self.mappings)?
-        };
-        Ok(Domain {
-            id: self.id,
-            bypass: self.bypass,
-            mappings,
-        })
+        insert(&mut self.mappings, mapping)
     }
 
     /// Removes the mappings that lie in the span, if the domain has this id.

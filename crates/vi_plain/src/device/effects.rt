@@ -1,10 +1,11 @@
 //! What a request with status OK makes of the device (Virtio 1.2, 5.13.6.3 to 5.13.6.7).
-ghost use Rattle.std.specs.Prelude.{◌≡◌, List, IfOk, OnOk, OnErr};
+ghost use Rattle.std.specs.Prelude.{◌≡◌, ◌==◌, OnOk, OnErr};
+ghost use Rattle.std.specs.List.{position};
 ghost use Rattle.vi_bytes.specs.Mappings.{with_mapping, without_span};
 ghost use Rattle.vi_history.specs.Device.{domain_of, endpoint_of};
 ghost use Rattle.vi_history.specs.Effects.{moved, is_inhabited, inhabited, with_domain, with_mappings, endpoint_is_in, attached, effect, commit};
 ghost use Rattle.vi_history.specs.Statuses.{status};
-ghost use Rattle.vi_plain.specs.Kept.{IsSound};
+ghost use Rattle.vi_plain.specs.Kept.{IsSound, HaveOwnIds};
 
 use crate::device::Device;
 use crate::domain::Domain;
@@ -46,33 +47,37 @@ fn unmap(domains: &mut [Domain], id: u32, span: &Span)
     }
 }
 
-// A copy of the domains, with one more mapping in the one of this id.
-fn mapped(
-    alloc: Global,
-    domains: &[Domain],
-    id: u32,
-    mapping: Mapping,
-) -> Result<Vec<Domain>, AllocError>
-    requires { IsSound mapping }
-    ensures { IfOk result (λ v. v.items ≡ with_mappings id (with_mapping mapping) domains.now) }
+// Where the domain of this id stands.
+fn place_of(domains: &[Domain], id: u32) -> Option<usize>
+    ensures { result ≡ position (λ y. y.id == id) domains.now }
 {
-    let mut copies = Vec::new(alloc);
-    for y in domains {
-        copies.push(y.mapped_if(alloc, id, mapping)?)?;
+    domains.iter().position(|y| y.id() == id)
+}
+
+// Adds a mapping to the domain of this id.
+fn map(domains: &mut [Domain], id: u32, mapping: Mapping) -> Result<(), AllocError>
+    requires own_ids { HaveOwnIds domains.old }
+    requires sound { IsSound mapping }
+    ensures ok { OnOk result (domains.new ≡ with_mappings id (with_mapping mapping) domains.old) }
+    ensures err { OnErr result (domains.new ≡ domains.old) }
+{
+    match place_of(domains, id) {
+        None => Ok(()),
+        Some(place) => domains[place].map(mapping),
     }
-    Ok(copies)
 }
 
 impl Device {
-    /// Takes the effect of a request: a refused one has none. An error is want of memory, and changes
-    /// nothing.
+    /// Takes the effect of a request with this status: a refused one has none. An error is want of memory,
+    /// and changes nothing.
     #[tactic(auto, unfolding(vi_history::specs::Effects::commit))]
-    pub fn commit(&mut self, alloc: Global, request: &Request) -> Result<(), AllocError>
+    pub fn commit(&mut self, alloc: Global, request: &Request, code: u8) -> Result<(), AllocError>
+        requires { code ≡ status self.old request.now }
         ensures ok { OnOk result (self.new ≡ commit self.old request.now) }
         ensures err { OnErr result (self.new ≡ self.old) }
         ensures pages { self.new.pages ≡ self.old.pages }
     {
-        if self.status(request) == OK {
+        if code == OK {
             self.take_effect(alloc, request)
         } else {
             Ok(())
@@ -114,14 +119,14 @@ impl Device {
                     target,
                     flags,
                 };
-                self.map(alloc, domain, mapping)
+                self.map(domain, mapping)
             }
             Request::Unmap {
                 domain,
                 first,
                 last,
             } => {
-                unmap(&mut self.domains, domain, &Span { first, last });
+                self.unmap(domain, &Span { first, last });
                 Ok(())
             }
             Request::Probe { .. } => Ok(()),
@@ -181,14 +186,20 @@ impl Device {
         keep_inhabited(&mut self.domains, &self.endpoints);
     }
 
-    // Adds a mapping to the domain. The domains with it are made aside, so that an error changes nothing.
-    fn map(&mut self, alloc: Global, domain: u32, mapping: Mapping) -> Result<(), AllocError>
+    // Adds a mapping to the domain.
+    fn map(&mut self, domain: u32, mapping: Mapping) -> Result<(), AllocError>
         requires { status self.old (Request.Map domain mapping.span.first mapping.span.last mapping.target mapping.flags) ≡ OK }
         ensures ok { OnOk result (self.new ≡ record self.old { domains = with_mappings domain (with_mapping mapping) self.old.domains }) }
         ensures err { OnErr result (self.new ≡ self.old) }
         ensures pages { self.new.pages ≡ self.old.pages }
     {
-        self.domains = mapped(alloc, &self.domains, domain, mapping)?;
-        Ok(())
+        map(&mut self.domains, domain, mapping)
+    }
+
+    // Removes the mappings of the domain that lie in the span.
+    fn unmap(&mut self, domain: u32, span: &Span)
+        ensures { self.new ≡ record self.old { domains = with_mappings domain (without_span span.now) self.old.domains } }
+    {
+        unmap(&mut self.domains, domain, span);
     }
 }

@@ -4,6 +4,7 @@ ghost use Rattle.vi_bytes.specs.Fields.{byte_at};
 ghost use Rattle.vi_history.specs.Effects.{commit};
 ghost use Rattle.vi_history.specs.Replies.{no_properties, properties, status_answer, probed_answer, request_answer, reading_answer, reading_commit};
 ghost use Rattle.vi_history.specs.Requests.{reading, writable_size};
+ghost use Rattle.vi_history.specs.Statuses.{status};
 
 use crate::answer::Answer;
 use crate::device::Device;
@@ -59,8 +60,9 @@ impl Device {
         ensures err { OnErr result (self.new ≡ self.old) }
         ensures pages { self.new.pages ≡ self.old.pages }
     {
-        let answer = self.answer(alloc, request)?;
-        self.commit(alloc, request)?;
+        let code = self.status(request);
+        let answer = self.answer(alloc, request, code)?;
+        self.commit(alloc, request, code)?;
         Ok(answer)
     }
 
@@ -83,20 +85,20 @@ impl Device {
         }
     }
 
-    // The answer to a request in this state.
-    fn answer(&self, alloc: Global, request: &Request) -> Result<Answer, AllocError>
+    // The answer to a request that has this status.
+    fn answer(&self, alloc: Global, request: &Request, code: u8) -> Result<Answer, AllocError>
+        requires { code ≡ status self.now request.now }
         ensures { IfOk result (λ a. a ≡ request_answer self.now request.now) }
     {
-        let status = self.status(request);
         match *request {
             Request::Probe { endpoint } => Ok(Answer::probed(
-                status,
+                code,
                 self.properties(alloc, endpoint)?,
             )),
             Request::Attach { .. }
             | Request::Detach { .. }
             | Request::Map { .. }
-            | Request::Unmap { .. } => Ok(Answer::status(alloc, status)),
+            | Request::Unmap { .. } => Ok(Answer::status(alloc, code)),
         }
     }
 
