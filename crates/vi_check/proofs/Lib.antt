@@ -1,0 +1,12 @@
+pub mod EnteredLemmas
+pub mod BatchLemmas
+pub mod MissingLemmas
+pub mod FaultLemmas
+pub mod CallLemmas
+pub mod TrackedLemmas
+pub mod AnswerLemmas
+pub mod SeenLemmas
+pub mod WalkLemmas
+pub mod VerdictLemmas
+pub mod ShownLemmas
+pub mod LegalLemmas

@@ -1,0 +1,14 @@
+//! Whether a report is one of a script: the verdict on its entries and its fault records.
+#![tactic(auto)]
+
+mod driver;
+mod faults;
+mod judging;
+mod progress;
+#[cfg(test)]
+mod tests;
+mod verdict;
+mod walk;
+
+pub use judging::{check, legal_exactly};
+pub use verdict::Verdict;
