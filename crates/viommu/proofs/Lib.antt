@@ -1,3 +1,4 @@
+pub mod AcceptedLemmas
 pub mod CommandLemmas
 pub mod EndLemmas
 pub mod KnownBytesLemmas
@@ -8,3 +9,4 @@ pub mod TakenLemmas
 pub mod ReplyLemmas
 pub mod OneLemmas
 pub mod CountLemmas
+pub mod JudgedLemmas

@@ -1,12 +1,30 @@
--- Which scripts each command takes.
-use Rattle.std.specs.Prelude.{ℕ, List, Result}
+-- Which scripts each command takes, and how many bytes it reads.
+use Rattle.std.specs.Prelude.{ℕ, List, Result, Some, None}
+use Rattle.std.specs.declared.option.Option.{Option}
 use Rattle.vi_script.specs.Value.{ScriptValue}
 use Rattle.vi_script.specs.Texts.{script, Bad}
+use Rattle.viommu.specs.Judged.{judged_script}
 use Rattle.viommu.specs.Runnable.{runnable}
 use Rattle.viommu.specs.declared.command.Command.{Command}
-use Rattle.viommu.specs.declared.command.Command.TheVariants.{Sim, One}
+use Rattle.viommu.specs.declared.command.Command.TheVariants.{Script, Make}
+use Rattle.viommu.specs.declared.command.Task.{Task}
+use Rattle.viommu.specs.declared.command.Task.TheVariants.{Sim, One, Check}
+use Rattle.viommu.specs.declared.top.TheConstants.{INPUT_LIMIT, CHECK_LIMIT}
 
--- the script that the command takes the input for, or the first line at which the input is refused
-abbrev pub accepts : Command → List ℕ → Result ScriptValue Bad
+-- the script that is taken from the input, or the first line at which the input is refused
+abbrev pub accepts : Task → List ℕ → Result ScriptValue Bad
 accepts Sim input = runnable input
 accepts One input = script input
+accepts Check input = judged_script input
+
+-- how many bytes of input are read at most
+abbrev pub limit_of : Task → ℕ
+limit_of Sim = INPUT_LIMIT
+limit_of One = INPUT_LIMIT
+limit_of Check = CHECK_LIMIT
+
+-- the task of a command that reads its input
+abbrev pub task_of : Option Command → Option Task
+task_of None = None
+task_of (Some (Script task)) = Some task
+task_of (Some (Make rounds)) = None

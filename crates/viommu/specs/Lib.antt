@@ -14,3 +14,5 @@ pub mod Counts
 pub mod Made
 pub mod OneThread
 pub mod Accepted
+pub mod Judged
+pub mod Cuts

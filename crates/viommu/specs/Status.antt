@@ -4,7 +4,7 @@ use Rattle.std.specs.Fmt.{decimal}
 use Rattle.vi_script.specs.Faults.{kind_text}
 use Rattle.vi_script.specs.declared.fault.BadKind.{BadKind}
 use Rattle.viommu.specs.declared.status.Status.{Status}
-use Rattle.viommu.specs.declared.status.Status.TheVariants.{Ok, Usage, BadScript, TooLong, ReadFault, WriteFault, OutOfMemory, Spent}
+use Rattle.viommu.specs.declared.status.Status.TheVariants.{Ok, Usage, BadScript, TooLong, ReadFault, WriteFault, OutOfMemory, Spent, Wrong, BadReport}
 
 -- the number with which the process ends
 abbrev pub status_number : Status → ℕ
@@ -14,8 +14,10 @@ status_number (BadScript _ _) = 3
 status_number TooLong = 4
 status_number ReadFault = 5
 status_number WriteFault = 6
+status_number Wrong = 7
 status_number OutOfMemory = 8
 status_number Spent = 9
+status_number (BadReport _) = 10
 
 -- the text and LF
 abbrev pub line_of : List ℕ → List ℕ
@@ -25,14 +27,20 @@ line_of text = text ++ 10 ∷ []
 abbrev pub bad_script_text : ℕ → BadKind → List ℕ
 bad_script_text line kind = line_of (codes "bad script line " ++ decimal line ++ codes ": " ++ kind_text kind)
 
--- The text that is written with a status. With Ok the command's own text is written, and after a fault
+-- where a report is refused
+abbrev pub bad_report_text : ℕ → List ℕ
+bad_report_text line = line_of (codes "bad report line " ++ decimal line)
+
+-- The text that is written with a status. With Ok and Wrong the command's own text is written, and after a fault
 -- or want of memory none.
 abbrev pub status_text : Status → List ℕ
 status_text Ok = []
-status_text Usage = line_of (codes "usage: viommu sim 0 0 | one")
+status_text Usage = line_of (codes "usage: viommu sim 0 0 | one | check | make N")
 status_text (BadScript line kind) = bad_script_text line kind
 status_text TooLong = line_of (codes "input too long")
 status_text ReadFault = []
 status_text WriteFault = []
 status_text OutOfMemory = []
+status_text Wrong = []
+status_text (BadReport line) = bad_report_text line
 status_text Spent = line_of (codes "spent")

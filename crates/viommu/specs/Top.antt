@@ -1,46 +1,62 @@
 -- How a call of the program ends, by its words, what its source had left, and what its sink took.
-use Rattle.std.specs.Prelude.{◌≡◌, ◌≤◌, ◌<◌, ◌⊎◌, ℕ, List, length, Some, None, IsSome, ⊤}
+use Rattle.std.specs.Prelude.{◌≡◌, ◌≢◌, ◌≤◌, ◌<◌, ◌⊎◌, ℕ, List, length, Some, None, IsSome, ⊤, Result}
 use Rattle.std.specs.Prelude as std
+use Rattle.std.specs.declared.option.Option.{Option}
+use Rattle.std.specs.Io.KnownBytes.{Appends, Keeps}
 use Rattle.vi_history.specs.Outcomes.{IsWellMade}
 use Rattle.vi_history.specs.declared.outcome.Outcome.{Outcome}
 use Rattle.vi_report.specs.Texts.{text}
 use Rattle.vi_report.specs.Types.{IsTyped}
+use Rattle.vi_report.specs.Reading.{read_report}
 use Rattle.vi_core.specs.Worlds.{IsOutcome, IsSpent}
 use Rattle.vi_script.specs.Value.{ScriptValue}
 use Rattle.vi_script.specs.Texts.{Bad}
 use Rattle.vi_script.specs.Legal.{IsLegalHistory, HasRecords}
-use Rattle.vi_order.specs.Unmapped.{FaultsBehindUnmaps}
-use Rattle.viommu.specs.Accepted.{accepts}
-use Rattle.viommu.specs.OneThread.{one_thread}
+use Rattle.vi_script.specs.Ordered.{IsOrdered}
 use Rattle.vi_script.specs.declared.fault.BadKind.{BadKind}
-use Rattle.std.specs.declared.option.Option.{Option}
-use Rattle.std.specs.Io.KnownBytes.{Appends, Keeps}
+use Rattle.vi_order.specs.Unmapped.{FaultsBehindUnmaps}
+use Rattle.vi_check.specs.Verdicts.{verdict}
+use Rattle.vi_check.specs.Texts.{verdict_text}
+use Rattle.vi_check.specs.declared.verdict.Verdict.{Verdict}
+use Rattle.vi_check.specs.declared.verdict.Verdict.TheVariants as verdicts
+use Rattle.vi_make.specs.LoadScript.{load_script}
+use Rattle.viommu.specs.Accepted.{accepts, limit_of, task_of}
 use Rattle.viommu.specs.Causes.{Rose}
 use Rattle.viommu.specs.Input.{ReadsAll, IsPast}
+use Rattle.viommu.specs.Judged.{judged_report}
+use Rattle.viommu.specs.OneThread.{one_thread}
 use Rattle.viommu.specs.Output.{TakesProperPrefix}
 use Rattle.viommu.specs.Status.{status_text}
 use Rattle.viommu.specs.Work.{Does}
 use Rattle.viommu.specs.declared.command.Command.{Command}
-use Rattle.viommu.specs.declared.command.Command.TheVariants.{Sim, One}
+use Rattle.viommu.specs.declared.command.Command.TheVariants.{Make}
+use Rattle.viommu.specs.declared.command.Task.{Task}
+use Rattle.viommu.specs.declared.command.Task.TheVariants.{Sim, One, Check}
 use Rattle.viommu.specs.declared.status.Status.{Status}
-use Rattle.viommu.specs.declared.status.Status.TheVariants.{Ok, Usage, BadScript, TooLong, ReadFault, WriteFault, OutOfMemory, Spent}
-use Rattle.viommu.specs.declared.top.TheConstants.{INPUT_LIMIT}
+use Rattle.viommu.specs.declared.status.Status.TheVariants.{Ok, Usage, BadScript, TooLong, ReadFault, WriteFault, OutOfMemory, Spent, Wrong, BadReport}
 
 -- the command's work is done on all that the source had left, within the limit
 pub record Works (command : Option Command) (old new : Option (List ℕ)) (status : Status) (text : List ℕ) : Type 0 where
-  pub form : Command
-  pub is_form : command ≡ Some form
+  pub task : Task
+  pub is_task : task_of command ≡ Some task
   pub input : List ℕ
   pub read : ReadsAll old new input
-  pub within : length input ≤ INPUT_LIMIT
-  pub done : Does form input status text
+  pub within : length input ≤ limit_of task
+  pub done : Does task input status text
+
+-- more bytes are left than the command reads
+pub record IsTooMuch (command : Option Command) (left : Option (List ℕ)) : Type 0 where
+  pub task : Task
+  pub is_task : task_of command ≡ Some task
+  pub past : IsPast (limit_of task) left
 
 -- This status and this text are due, where no fault comes and memory is found; old and new are what
 -- the source has left before and after.
 pub data IsDue (command : Option Command) (old new : Option (List ℕ)) (status : Status) (text : List ℕ) : Type 0 where
   usage : command ≡ None → status ≡ Usage → text ≡ status_text Usage → IsDue command old new status text
-  too_long : IsSome command → IsPast INPUT_LIMIT old → status ≡ TooLong → text ≡ status_text TooLong → IsDue command old new status text
+  too_long : IsTooMuch command old → status ≡ TooLong → text ≡ status_text TooLong → IsDue command old new status text
   worked : Works command old new status text → IsDue command old new status text
+  made : (rounds : ℕ) → command ≡ Some (Make rounds) → status ≡ Ok → text ≡ load_script rounds → IsDue command old new status text
 
 -- a status that comes in place of the one that was due
 abbrev pub IsFault : Status → Type 0
@@ -76,16 +92,50 @@ pub record WritesReplies (left_old left_new taken_old taken_new : Option (List �
   pub records : HasRecords s (one_thread s)
   pub unmapped : FaultsBehindUnmaps s (one_thread s).entries
 
--- what a command did that ended with Ok
-abbrev pub Writes : Command → Option (List ℕ) → Option (List ℕ) → Option (List ℕ) → Option (List ℕ) → Type 0
-Writes Sim left_old left_new taken_old taken_new = WritesReport left_old left_new taken_old taken_new
-Writes One left_old left_new taken_old taken_new = WritesReplies left_old left_new taken_old taken_new
-
--- the whole input is refused at this line
-pub record IsRefusedAt (command : Command) (line : ℕ) (kind : BadKind) (left_old left_new : Option (List ℕ)) : Type 0 where
+-- the whole input is a script and a report, with the verdict on it
+pub record IsJudged (left_old left_new : Option (List ℕ)) : Type 0 where
   pub input : List ℕ
   pub read : ReadsAll left_old left_new input
-  pub refused : accepts command input ≡ std.Err (record { line = line; kind = kind })
+  pub s : ScriptValue
+  pub is_script : accepts Check input ≡ std.Ok s
+  pub outcome : Outcome
+  pub is_report : read_report (judged_report input) ≡ std.Ok outcome
+
+-- `check`: the verdict is Legal, which is what the sink took. So the report's entries are in order, each answer is that of
+-- the one-thread device, and the fault records are those of the entries.
+pub record WritesLegal (left_old left_new taken_old taken_new : Option (List ℕ)) : Type 0 where
+  pub judged : IsJudged left_old left_new
+  pub is_legal : verdict judged.s judged.outcome ≡ verdicts.Legal
+  pub took : Appends taken_old taken_new (verdict_text verdicts.Legal)
+  pub ordered : IsOrdered judged.s judged.outcome.entries
+  pub legal : IsLegalHistory judged.s judged.outcome.entries
+  pub records : HasRecords judged.s judged.outcome
+
+-- the verdict isn't Legal, and its text is what the sink took
+pub record WritesVerdict (left_old left_new taken_old taken_new : Option (List ℕ)) : Type 0 where
+  pub judged : IsJudged left_old left_new
+  pub other : verdict judged.s judged.outcome ≢ verdicts.Legal
+  pub took : Appends taken_old taken_new (verdict_text (verdict judged.s judged.outcome))
+
+-- what a command that reads its input did, where it ended with Ok
+abbrev pub Writes : Task → Option (List ℕ) → Option (List ℕ) → Option (List ℕ) → Option (List ℕ) → Type 0
+Writes Sim left_old left_new taken_old taken_new = WritesReport left_old left_new taken_old taken_new
+Writes One left_old left_new taken_old taken_new = WritesReplies left_old left_new taken_old taken_new
+Writes Check left_old left_new taken_old taken_new = WritesLegal left_old left_new taken_old taken_new
+
+-- the whole input is refused at this line
+pub record IsRefusedAt (task : Task) (line : ℕ) (kind : BadKind) (left_old left_new : Option (List ℕ)) : Type 0 where
+  pub input : List ℕ
+  pub read : ReadsAll left_old left_new input
+  pub refused : accepts task input ≡ std.Err (record { line = line; kind = kind })
+
+-- the whole input is a script and a report that is refused at this line of its own
+pub record IsBadReport (line : ℕ) (left_old left_new : Option (List ℕ)) : Type 0 where
+  pub input : List ℕ
+  pub read : ReadsAll left_old left_new input
+  pub s : ScriptValue
+  pub is_script : accepts Check input ≡ std.Ok s
+  pub refused : read_report (judged_report input) ≡ std.Err line
 
 -- the whole input is a script, of which the budget of rounds was made, and its lines aren't finished
 pub record IsSpentOn (left_old left_new : Option (List ℕ)) : Type 0 where
@@ -101,28 +151,48 @@ CutsText command left_old left_new taken_old taken_new =
     (due : Status) × (text : List ℕ) × IsDue command left_old left_new due text × TakesProperPrefix taken_old taken_new text
 
 -- where more bytes than the limit are left, the status is TooLong, unless a fault comes or memory is wanting
-abbrev pub IsTooLongPast : Option (List ℕ) → Status → Type 0
-IsTooLongPast None status = ⊤
-IsTooLongPast (Some input) status = INPUT_LIMIT < length input → (status ≡ TooLong) ⊎ IsFault status
+abbrev pub IsTooLongPast : Task → Option (List ℕ) → Status → Type 0
+IsTooLongPast task None status = ⊤
+IsTooLongPast task (Some input) status = limit_of task < length input → (status ≡ TooLong) ⊎ IsFault status
 
--- the work is done, or for `sim` the budget of turns was made
-abbrev pub IsDone : Command → Status → Type 0
-IsDone Sim status = (status ≡ Ok) ⊎ (status ≡ Spent)
-IsDone One status = status ≡ Ok
+-- the status of a verdict
+abbrev pub verdict_status : Verdict → Status
+verdict_status verdicts.Legal = Ok
+verdict_status (verdicts.Wrong entry want got) = Wrong
+verdict_status (verdicts.Order entry) = Wrong
+verdict_status (verdicts.Extra entry) = Wrong
+verdict_status (verdicts.Missing caller line part) = Wrong
+verdict_status (verdicts.Faults at) = Wrong
+
+-- the status of a report that was read, or of the line at which it is refused
+abbrev pub report_status : ScriptValue → Result Outcome ℕ → Status
+report_status s (std.Ok outcome) = verdict_status (verdict s outcome)
+report_status s (std.Err line) = BadReport line
+
+-- the work on a script is done, or for `sim` the budget of turns was made
+abbrev pub IsDone : Task → List ℕ → ScriptValue → Status → Type 0
+IsDone Sim input s status = (status ≡ Ok) ⊎ (status ≡ Spent)
+IsDone One input s status = status ≡ Ok
+IsDone Check input s status = status ≡ report_status s (read_report (judged_report input))
 
 -- where no more bytes than the limit are left and they are a script, the work is done, unless a fault comes or memory is
 -- wanting
-abbrev pub IsDoneWithin : Command → Option (List ℕ) → Status → Type 0
-IsDoneWithin command None status = ⊤
-IsDoneWithin command (Some input) status =
-    length input ≤ INPUT_LIMIT → (s : ScriptValue) → accepts command input ≡ std.Ok s → IsDone command status ⊎ IsFault status
+abbrev pub IsDoneWithin : Task → Option (List ℕ) → Status → Type 0
+IsDoneWithin task None status = ⊤
+IsDoneWithin task (Some input) status =
+    length input ≤ limit_of task → (s : ScriptValue) → accepts task input ≡ std.Ok s → IsDone task input s status ⊎ IsFault status
 
 -- where no more bytes than the limit are left and they are refused, so is the script, unless a fault comes or memory
 -- is wanting
-abbrev pub IsRefusedWithin : Command → Option (List ℕ) → Status → Type 0
-IsRefusedWithin command None status = ⊤
-IsRefusedWithin command (Some input) status =
-    length input ≤ INPUT_LIMIT → (bad : Bad) → accepts command input ≡ std.Err bad → (status ≡ BadScript bad.line bad.kind) ⊎ IsFault status
+abbrev pub IsRefusedWithin : Task → Option (List ℕ) → Status → Type 0
+IsRefusedWithin task None status = ⊤
+IsRefusedWithin task (Some input) status =
+    length input ≤ limit_of task → (bad : Bad) → accepts task input ≡ std.Err bad → (status ≡ BadScript bad.line bad.kind) ⊎ IsFault status
+
+-- how many bytes a command reads at most, but for what the last read brings
+abbrev pub reads_up_to : Option Task → ℕ
+reads_up_to None = 0
+reads_up_to (Some task) = limit_of task
 
 -- What is known of the source and the sink at a moment: what is left and what was taken, where they
 -- tell it, and their counts of faults.
@@ -136,5 +206,5 @@ pub record Outside : Type 0 where
 pub data Ends (command : Option Command) (old new : Outside) (status : Status) : Type 0 where
   delivered : (text : List ℕ) → IsDue command old.left new.left status text → Appends old.taken new.taken text → Ends command old new status
   cut : CutsText command old.left new.left old.taken new.taken → Rose old.write_faults new.write_faults → status ≡ WriteFault → Ends command old new status
-  not_read : IsSome command → Rose old.read_faults new.read_faults → Keeps old.taken new.taken → status ≡ ReadFault → Ends command old new status
+  not_read : IsSome (task_of command) → Rose old.read_faults new.read_faults → Keeps old.taken new.taken → status ≡ ReadFault → Ends command old new status
   no_memory : IsSome command → Keeps old.taken new.taken → status ≡ OutOfMemory → Ends command old new status

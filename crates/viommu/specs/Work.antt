@@ -1,20 +1,25 @@
 -- What each command makes of an input that was read to its end: a status, and the text that is written with it.
-use Rattle.std.specs.Prelude.{◌≡◌, ℕ, List}
+use Rattle.std.specs.Prelude.{◌≡◌, ◌≢◌, ℕ, List}
 use Rattle.std.specs.Prelude as std
 use Rattle.vi_history.specs.Outcomes.{IsWellMade}
 use Rattle.vi_history.specs.declared.outcome.Outcome.{Outcome}
 use Rattle.vi_report.specs.Texts.{text}
 use Rattle.vi_report.specs.Types.{IsTyped}
+use Rattle.vi_report.specs.Reading.{read_report}
+use Rattle.vi_check.specs.Verdicts.{verdict}
+use Rattle.vi_check.specs.Texts.{verdict_text}
+use Rattle.vi_check.specs.declared.verdict.Verdict.TheVariants as verdicts
 use Rattle.vi_core.specs.Worlds.{IsOutcome, IsSpent}
 use Rattle.vi_script.specs.Value.{ScriptValue}
 use Rattle.vi_script.specs.Texts.{Bad}
 use Rattle.viommu.specs.Accepted.{accepts}
+use Rattle.viommu.specs.Judged.{judged_report}
 use Rattle.viommu.specs.OneThread.{one_thread}
 use Rattle.viommu.specs.Status.{status_text}
-use Rattle.viommu.specs.declared.command.Command.{Command}
-use Rattle.viommu.specs.declared.command.Command.TheVariants.{Sim, One}
+use Rattle.viommu.specs.declared.command.Task.{Task}
+use Rattle.viommu.specs.declared.command.Task.TheVariants.{Sim, One, Check}
 use Rattle.viommu.specs.declared.status.Status.{Status}
-use Rattle.viommu.specs.declared.status.Status.TheVariants.{Ok, BadScript, Spent}
+use Rattle.viommu.specs.declared.status.Status.TheVariants.{Ok, BadScript, Spent, Wrong, BadReport}
 
 -- `sim 0 0`: the script's run has this outcome, and its report is the text
 pub record Sims (s : ScriptValue) (answer : List ℕ) : Type 0 where
@@ -30,19 +35,26 @@ pub record Replies (s : ScriptValue) (answer : List ℕ) : Type 0 where
   pub typed : IsTyped (one_thread s)
   pub report : answer ≡ text (one_thread s)
 
--- the text that the command makes of a script
-abbrev pub Makes : Command → ScriptValue → List ℕ → Type 0
-Makes Sim s answer = Sims s answer
-Makes One s answer = Replies s answer
+-- `check`: a report was read, and this is the text of the verdict on it
+pub record Judges (s : ScriptValue) (input answer : List ℕ) : Type 0 where
+  pub outcome : Outcome
+  pub is_report : read_report (judged_report input) ≡ std.Ok outcome
+  pub made : IsWellMade outcome
+  pub words : answer ≡ verdict_text (verdict s outcome)
 
--- What comes of a script: the text that the command makes of it, or the budget of turns was made before the lines of the
--- run were finished.
-pub data Answers (command : Command) (s : ScriptValue) (status : Status) (answer : List ℕ) : Type 0 where
-  makes : Makes command s answer → status ≡ Ok → Answers command s status answer
-  spends : command ≡ Sim → IsSpent s → status ≡ Spent → answer ≡ status_text status → Answers command s status answer
+-- What comes of a script: the text that the command makes of it. For `sim`, the budget of turns may be made before the
+-- lines of the run are finished. For `check`, the report may be refused at its first bad line, and the verdict may find
+-- something wrong.
+pub data Answers (task : Task) (input : List ℕ) (s : ScriptValue) (status : Status) (answer : List ℕ) : Type 0 where
+  sims : task ≡ Sim → Sims s answer → status ≡ Ok → Answers task input s status answer
+  spends : task ≡ Sim → IsSpent s → status ≡ Spent → answer ≡ status_text status → Answers task input s status answer
+  replies : task ≡ One → Replies s answer → status ≡ Ok → Answers task input s status answer
+  bad_report : task ≡ Check → (line : ℕ) → read_report (judged_report input) ≡ std.Err line → status ≡ BadReport line → answer ≡ status_text status → Answers task input s status answer
+  legal : task ≡ Check → (j : Judges s input answer) → verdict s j.outcome ≡ verdicts.Legal → status ≡ Ok → Answers task input s status answer
+  wrong : task ≡ Check → (j : Judges s input answer) → verdict s j.outcome ≢ verdicts.Legal → status ≡ Wrong → Answers task input s status answer
 
 -- The command's work on this input comes to this status and this text: the input is a script that the command takes, or
 -- it is refused at its first bad line.
-pub data Does (command : Command) (input : List ℕ) (status : Status) (answer : List ℕ) : Type 0 where
-  took : (s : ScriptValue) → accepts command input ≡ std.Ok s → Answers command s status answer → Does command input status answer
-  refused : (bad : Bad) → accepts command input ≡ std.Err bad → status ≡ BadScript bad.line bad.kind → answer ≡ status_text status → Does command input status answer
+pub data Does (task : Task) (input : List ℕ) (status : Status) (answer : List ℕ) : Type 0 where
+  took : (s : ScriptValue) → accepts task input ≡ std.Ok s → Answers task input s status answer → Does task input status answer
+  refused : (bad : Bad) → accepts task input ≡ std.Err bad → status ≡ BadScript bad.line bad.kind → answer ≡ status_text status → Does task input status answer

@@ -1,4 +1,4 @@
-//! Scripts, and what the command `one` writes for each.
+//! Inputs of the commands `one` and `check`, and what is written for each.
 
 /// Each case is a line `case` with its name, a script, a line `writes`, and the text that is written.
 pub const ONE: &str = "case write and read
@@ -346,4 +346,179 @@ case a granule that there isn't
 granule 8192
 writes
 bad script line 1: limit
+";
+
+/// The same for `check`, whose input has a report behind the script.
+pub const CHECK: &str = "case a removal with two back ends
+memory 1
+endpoint 5
+endpoint 6
+turns d0 dev d0 d0 dev d0 d0 dev d0
+turns b5 b5 dev b5 b5 b5 b5 b6 b6 dev b6 b6 b6 b6
+turns d0 dev b5 dev b5 b5 dev b6 b6 dev dev dev b5 d0
+d0 attach 1 5
+d0 attach 1 6
+d0 map 1 0x1000 0x1fff 0x0 rw
+b5 write 0x1000 01 after d0.3
+b6 read 0x1000 1 after d0.3
+d0 unmap 1 0x1000 0x1fff after b5.1 b6.1
+b5 read 0x1000 1 after b6.1
+b6 write 0x1000 02
+report
+viommu history 8
+1 d0.1 status 0
+2 d0.2 status 0
+3 d0.3 status 0
+4 b5.1.1 wrote
+5 b6.1.1 read 01
+6 b6.2.1 wrote
+7 d0.4 status 0
+8 b5.2.1 fault 2
+faults 1 shown 1 dropped 0
+8 020000000101000005000000000000000010000000000000
+end
+writes
+legal
+case an access behind the unmap
+memory 1
+endpoint 5
+endpoint 6
+turns d0 dev d0 d0 dev d0 d0 dev d0
+turns b5 b5 dev b5 b5 b5 b5 b6 b6 dev b6 b6 b6 b6
+turns d0 dev b5 dev b5 b5 dev b6 b6 dev dev dev b5 d0
+d0 attach 1 5
+d0 attach 1 6
+d0 map 1 0x1000 0x1fff 0x0 rw
+b5 write 0x1000 01 after d0.3
+b6 read 0x1000 1 after d0.3
+d0 unmap 1 0x1000 0x1fff after b5.1 b6.1
+b5 read 0x1000 1 after b6.1
+b6 write 0x1000 02
+report
+viommu history 8
+1 d0.1 status 0
+2 d0.2 status 0
+3 d0.3 status 0
+4 b5.1.1 wrote
+5 b6.1.1 read 01
+6 d0.4 status 0
+7 b6.2.1 wrote
+8 b5.2.1 fault 2
+faults 1 shown 1 dropped 0
+8 020000000101000005000000000000000010000000000000
+end
+writes
+wrong 7 want fault 2 got wrote
+case an entry twice
+memory 1
+endpoint 5
+endpoint 6
+turns d0 dev d0 d0 dev d0 d0 dev d0
+turns b5 b5 dev b5 b5 b5 b5 b6 b6 dev b6 b6 b6 b6
+turns d0 dev b5 dev b5 b5 dev b6 b6 dev dev dev b5 d0
+d0 attach 1 5
+d0 attach 1 6
+d0 map 1 0x1000 0x1fff 0x0 rw
+b5 write 0x1000 01 after d0.3
+b6 read 0x1000 1 after d0.3
+d0 unmap 1 0x1000 0x1fff after b5.1 b6.1
+b5 read 0x1000 1 after b6.1
+b6 write 0x1000 02
+report
+viommu history 9
+1 d0.1 status 0
+2 d0.2 status 0
+3 d0.3 status 0
+4 b5.1.1 wrote
+5 b6.1.1 read 01
+6 b6.1.1 read 01
+7 b6.2.1 wrote
+8 d0.4 status 0
+9 b5.2.1 fault 2
+faults 1 shown 1 dropped 0
+9 020000000101000005000000000000000010000000000000
+end
+writes
+extra 6
+case a report without its end
+memory 1
+endpoint 5
+endpoint 6
+turns d0 dev d0 d0 dev d0 d0 dev d0
+turns b5 b5 dev b5 b5 b5 b5 b6 b6 dev b6 b6 b6 b6
+turns d0 dev b5 dev b5 b5 dev b6 b6 dev dev dev b5 d0
+d0 attach 1 5
+d0 attach 1 6
+d0 map 1 0x1000 0x1fff 0x0 rw
+b5 write 0x1000 01 after d0.3
+b6 read 0x1000 1 after d0.3
+d0 unmap 1 0x1000 0x1fff after b5.1 b6.1
+b5 read 0x1000 1 after b6.1
+b6 write 0x1000 02
+report
+viommu history 8
+1 d0.1 status 0
+2 d0.2 status 0
+3 d0.3 status 0
+4 b5.1.1 wrote
+5 b6.1.1 read 01
+6 b6.2.1 wrote
+7 d0.4 status 0
+8 b5.2.1 fault 2
+faults 1 shown 1 dropped 0
+8 020000000101000005000000000000000010000000000000
+writes
+bad report line 12
+case a batch of two requests
+memory 1
+endpoint 5
+turns d0 dev d0 d0 dev d0 b5 b5 dev b5 b5 b5 b5 d0 d0 dev dev
+d0 attach 1 5
+d0 map 1 0x1000 0x1fff 0x0 rw
+b5 read 0x1000 1 after d0.2
+d0 add unmap 1 0x1000 0x1fff after b5.1
+d0 detach 9 5
+report
+viommu history 5
+1 d0.1 status 0
+2 d0.2 status 0
+3 b5.1.1 read 00
+4 d0.4 status 4
+5 d0.3 status 0
+faults 0 shown 0 dropped 0
+end
+writes
+legal
+case two requests that are no batch
+memory 1
+endpoint 5
+turns d0 dev d0 d0 dev d0 b5 b5 dev b5 b5 b5 b5 d0 d0 dev dev
+d0 attach 1 5
+d0 map 1 0x1000 0x1fff 0x0 rw
+b5 read 0x1000 1 after d0.2
+d0 unmap 1 0x1000 0x1fff after b5.1
+d0 detach 9 5
+report
+viommu history 5
+1 d0.1 status 0
+2 d0.2 status 0
+3 b5.1.1 read 00
+4 d0.4 status 4
+5 d0.3 status 0
+faults 0 shown 0 dropped 0
+end
+writes
+order 4
+case a script without a report
+memory 1
+# report
+writes
+bad script line 3: report
+case nothing at all
+writes
+bad script line 1: report
+case a report that is empty
+report
+writes
+bad report line 1
 ";

@@ -1,18 +1,29 @@
 //! The forms of the command line.
 ghost use Rattle.std.specs.Prelude.{◌≡◌, map, string_bytes};
-ghost use Rattle.viommu.specs.Command.{alone, command_in, named, sim_of, word_is_zero};
+ghost use Rattle.viommu.specs.Command.{alone, command_in, make_for, make_of, named, sim_of, word_is_zero};
+ghost use Rattle.viommu.specs.Words.{number_of};
 
 use crate::words::number;
 
 /// What the program is to do. The words of the command line are exactly those of its form.
 #[derive(Clone, Copy, Debug, PartialEq, Eq)]
 pub enum Command {
-    /// `sim 0 0`: a script is read from standard input and run, and the report of the run is
-    /// written.
+    /// A script is read from standard input.
+    Script(Task),
+    /// `make N`: the load script of N rounds, 1 to 400, is written. Nothing is read.
+    Make { rounds: u32 },
+}
+
+/// What is done with a script.
+#[derive(Clone, Copy, Debug, PartialEq, Eq)]
+pub enum Task {
+    /// `sim 0 0`: it is run, and the report of the run is written.
     Sim,
-    /// `one`: the one-thread device without caches replies to a script's lines in the order of the
-    /// text, and the report of its replies is written.
+    /// `one`: the one-thread device without caches replies to its lines in the order of the text, and
+    /// the report of its replies is written.
     One,
+    /// `check`: a line `report` and a report follow it, and the verdict on the report is written.
+    Check,
 }
 
 impl Command {
@@ -33,26 +44,50 @@ fn named(name: &str, behind: &[String]) -> Option<Command>
 {
     match name {
         "sim" => sim_of(behind),
-        "one" => alone(Command::One, behind),
+        "one" => alone(Task::One, behind),
+        "check" => alone(Task::Check, behind),
+        "make" => make_of(behind),
         _ => None,
     }
 }
 
-#[tactic(auto, using(crate::proofs::CommandLemmas::no_form))]
+#[tactic(auto, using(crate::proofs::CommandLemmas::no_sim))]
 fn sim_of(behind: &[String]) -> Option<Command>
     ensures { result ≡ sim_of (map string_bytes behind.now) }
 {
     match behind {
-        [seed, turns] if is_zero(seed) && is_zero(turns) => Some(Command::Sim),
+        [seed, turns] if is_zero(seed) && is_zero(turns) => Some(Command::Script(Task::Sim)),
         _ => None,
     }
 }
 
-fn alone(command: Command, behind: &[String]) -> Option<Command>
-    ensures { result ≡ alone command (map string_bytes behind.now) }
+#[tactic(auto, using(crate::proofs::CommandLemmas::no_make))]
+fn make_of(behind: &[String]) -> Option<Command>
+    ensures { result ≡ make_of (map string_bytes behind.now) }
+{
+    match behind {
+        [rounds] => make_for(number(rounds.as_bytes())),
+        _ => None,
+    }
+}
+
+fn make_for(rounds: Option<u64>) -> Option<Command>
+    ensures { result ≡ make_for rounds }
+{
+    let rounds = rounds?;
+    if rounds < 1 || rounds > 400 {
+        return None;
+    }
+    Some(Command::Make {
+        rounds: rounds as u32,
+    })
+}
+
+fn alone(task: Task, behind: &[String]) -> Option<Command>
+    ensures { result ≡ alone task (map string_bytes behind.now) }
 {
     if behind.is_empty() {
-        Some(command)
+        Some(Command::Script(task))
     } else {
         None
     }

@@ -8,6 +8,7 @@ mod counts;
 mod course;
 mod deliver;
 mod input;
+mod judged;
 mod list_sink;
 mod list_source;
 mod one;

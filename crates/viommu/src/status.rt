@@ -1,6 +1,6 @@
 //! How the program ends: a status, its number, and the text that is written with it.
 ghost use Rattle.std.specs.Prelude.{◌≡◌, IfOk};
-ghost use Rattle.viommu.specs.Status.{bad_script_text};
+ghost use Rattle.viommu.specs.Status.{bad_script_text, bad_report_text};
 
 use std::alloc::{AllocError, Global};
 use vi_bytes::Bytes;
@@ -21,12 +21,16 @@ pub enum Status {
     ReadFault,
     /// Writing the text failed.
     WriteFault,
+    /// The report isn't one of the script: the verdict says what is wrong first.
+    Wrong,
     OutOfMemory,
+    /// The report is refused at this line of its own, counted from 1.
+    BadReport { line: u32 },
     /// The budget of turns was made, and the work isn't finished.
     Spent,
 }
 
-pub(crate) const USAGE: &[u8] = b"usage: viommu sim 0 0 | one\n";
+pub(crate) const USAGE: &[u8] = b"usage: viommu sim 0 0 | one | check | make N\n";
 
 pub(crate) const TOO_LONG: &[u8] = b"input too long\n";
 
@@ -46,13 +50,15 @@ impl Status {
             Status::TooLong => 4,
             Status::ReadFault => 5,
             Status::WriteFault => 6,
+            Status::Wrong => 7,
             Status::OutOfMemory => 8,
             Status::Spent => 9,
+            Status::BadReport { .. } => 10,
         }
     }
 
-    /// The text that is written with the status: one line, or nothing. With `Ok` a command writes
-    /// its own text in its place. An error is want of memory.
+    /// The text that is written with the status: one line, or nothing. With `Ok` and `Wrong` a command
+    /// writes its own text in its place. An error is want of memory.
     pub fn text(&self, alloc: Global) -> Result<Bytes, AllocError>
         ensures { IfOk result (λ text. text ≡ status_text self.now) }
     {
@@ -60,6 +66,7 @@ impl Status {
             Status::Usage => Bytes::of(alloc, USAGE),
             Status::BadScript { line, kind } => bad_script(alloc, *line, *kind),
             Status::TooLong => Bytes::of(alloc, TOO_LONG),
+            Status::BadReport { line } => bad_report(alloc, *line),
             Status::Spent => Bytes::of(alloc, SPENT),
             _ => Ok(Bytes::new(alloc)),
         }
@@ -71,5 +78,13 @@ fn bad_script(alloc: Global, line: u32, kind: BadKind) -> Result<Bytes, AllocErr
     ensures { IfOk result (λ text. text ≡ bad_script_text line kind) }
 {
     let text = format!(in alloc; "bad script line {line}: {kind}\n")?;
+    Ok(Bytes::from_vec(text.into_bytes()))
+}
+
+/// The line that says where a report is refused.
+fn bad_report(alloc: Global, line: u32) -> Result<Bytes, AllocError>
+    ensures { IfOk result (λ text. text ≡ bad_report_text line) }
+{
+    let text = format!(in alloc; "bad report line {line}\n")?;
     Ok(Bytes::from_vec(text.into_bytes()))
 }

@@ -1,5 +1,5 @@
 //! What no clause says: calls with ample memory, faults in mid-stream, and the adapters.
-use crate::cases::ONE;
+use crate::cases::{CHECK, ONE};
 use crate::input::{InputFault, read_input};
 use crate::list_sink::ListSink;
 use crate::list_source::ListSource;
@@ -108,13 +108,13 @@ fn reports_and_refusals(rt: HostRuntime) -> Result<(), Fail> {
             "one two",
             FIRST,
             Status::Usage,
-            b"usage: viommu sim 0 0 | one\n",
+            b"usage: viommu sim 0 0 | one | check | make N\n",
         ),
         (
             "sim 1 0",
             FIRST,
             Status::Usage,
-            b"usage: viommu sim 0 0 | one\n",
+            b"usage: viommu sim 0 0 | one | check | make N\n",
         ),
     ];
     for (line, input, want, text) in cases {
@@ -141,20 +141,44 @@ fn script_of(head: &str) -> &str {
     }
 }
 
-/// Whether `one` writes the text of the case for its script.
-fn is_written(alloc: Global, case: &str) -> Result<bool, Fail> {
-    let Some((head, text)) = case.split_once("\nwrites\n") else {
+/// Whether the command writes the text of the case for its input.
+fn is_written(alloc: Global, command: &str, case: &str) -> Result<bool, Fail> {
+    let Some((head, text)) = case.split_once("writes\n") else {
         return Ok(false);
     };
-    let (_, taken) = ran(alloc, "one", script_of(head).as_bytes(), &[], 9999, &[])?;
+    let (_, taken) = ran(alloc, command, script_of(head).as_bytes(), &[], 9999, &[])?;
     Ok(trimmed(taken.as_slice()) == trimmed(text.as_bytes()))
 }
 
 #[test]
 fn one_replies_as_the_standard_says(rt: HostRuntime) -> Result<(), Fail> {
     for case in ONE.split("\ncase ") {
-        assert!(rt; is_written(rt.alloc(), case)?, "{case}");
+        assert!(rt; is_written(rt.alloc(), "one", case)?, "{case}");
     }
+    Ok(())
+}
+
+#[test]
+fn check_gives_its_verdicts(rt: HostRuntime) -> Result<(), Fail> {
+    for case in CHECK.split("\ncase ") {
+        assert!(rt; is_written(rt.alloc(), "check", case)?, "{case}");
+    }
+    Ok(())
+}
+
+#[test]
+fn a_load_script_is_replied_to(rt: HostRuntime) -> Result<(), Fail> {
+    let alloc = rt.alloc();
+    let (status, script) = ran(alloc, "make 1", b"", &[], 9999, &[])?;
+    assert_eq!(rt; status, Status::Ok);
+    let (status, report) = ran(alloc, "one", script.as_slice(), &[], 9999, &[])?;
+    assert_eq!(rt; status, Status::Ok);
+    let mut both = script;
+    both.extend_from_slice(b"report\n")?;
+    both.extend_from_slice(report.as_slice())?;
+    let (status, verdict) = ran(alloc, "check", both.as_slice(), &[], 9999, &[])?;
+    assert_eq!(rt; status, Status::Ok);
+    assert_eq!(rt; verdict.as_slice(), b"legal\n".as_slice());
     Ok(())
 }
 
@@ -228,12 +252,18 @@ fn status_numbers_and_texts(rt: HostRuntime) -> Result<(), Fail> {
     };
     let cases = [
         (Status::Ok, 0, b"".as_slice()),
-        (Status::Usage, 2, b"usage: viommu sim 0 0 | one\n"),
+        (
+            Status::Usage,
+            2,
+            b"usage: viommu sim 0 0 | one | check | make N\n",
+        ),
         (refused, 3, b"bad script line 10000: notyet\n"),
         (Status::TooLong, 4, b"input too long\n"),
         (Status::ReadFault, 5, b""),
         (Status::WriteFault, 6, b""),
+        (Status::Wrong, 7, b""),
         (Status::OutOfMemory, 8, b""),
+        (Status::BadReport { line: 12 }, 10, b"bad report line 12\n"),
         (Status::Spent, 9, b"spent\n"),
     ];
     for (status, number, text) in cases {

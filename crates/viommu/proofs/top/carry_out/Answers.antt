@@ -1,29 +1,17 @@
-use Rattle.std.proofs.Common.{◌≡◌, None, refl, rules}
-use Rattle.viommu.specs.Top.{usage, too_long, worked}
-use Rattle.viommu.specs.declared.status.Status.TheVariants.{Usage, TooLong}
-use Rattle.viommu.proofs.EndLemmas.{Ends-from_deliver}
+use Rattle.std.proofs.Common.{◌≡◌, Some, refl, rules}
+use Rattle.viommu.specs.declared.command.Command.TheVariants.{Make}
+use Rattle.viommu.specs.Top.{usage}
+use Rattle.viommu.specs.declared.status.Status.TheVariants.{Usage}
+use Rattle.viommu.proofs.EndLemmas.{Ends-from_deliver, Ends-from_make}
 use Rattle.viommu.proofs.top.carry_out.Goals as goal
 
-pub returns-in_default-clause-ends : goal.returns-in_default-clause-ends
-returns-in_default-clause-ends g c =
+pub returns-in-None-clause-ends : goal.returns-in-None-clause-ends
+returns-in-None-clause-ends g c =
     let d = c.deliver.ensures in
-    let none : c.args.command ≡ None = search rules in
-    Ends-from_deliver _ _ _ Usage _ _ (usage none refl refl) d.either d.whole d.prefix d.write_fault
+    Ends-from_deliver _ _ _ Usage _ _ (usage c.in-None.is refl refl) d.either d.whole d.prefix d.write_fault
 
-pub returns-in-Err-TooLong-clause-ends : goal.returns-in-Err-TooLong-clause-ends
-returns-in-Err-TooLong-clause-ends g c =
-    let d = c.deliver-in-Err-TooLong.ensures in
-    Ends-from_deliver _ _ _ TooLong _ _ (too_long (search rules) (search rules) refl refl) d.either d.whole d.prefix d.write_fault
-
-pub returns-in-Ok-work-clause-ends : goal.returns-in-Ok-work-clause-ends
-returns-in-Ok-work-clause-ends g c =
-    let d = c.deliver-in-Ok-work.ensures in
-    let a = c.in-Ok-work.ensures in
-    Ends-from_deliver _ _ _ c.in-Ok-work.answer.status _ _ (worked record {
-      form = c.in-Some.command;
-      is_form = c.in-Some.is;
-      input = c.as_slice.result.now;
-      read = rw c.as_slice.ensures c.in-Ok.ensures.all;
-      within = rw c.as_slice.ensures c.in-Ok.ensures.within;
-      done = rw c.as_slice-in-Ok-work.ensures a;
-    }) d.either d.whole d.prefix d.write_fault
+pub returns-in-Some-Make-clause-ends : goal.returns-in-Some-Make-clause-ends
+returns-in-Some-Make-clause-ends g c =
+    let d = c.write_load_script.ensures in
+    let form : c.args.command ≡ Some (Make c.in-Some-Make.rounds) = search rules in
+    Ends-from_make _ _ _ _ c.in-Some-Make.rounds form d.either d.whole d.prefix d.nothing d.write_fault

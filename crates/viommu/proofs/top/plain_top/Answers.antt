@@ -1,5 +1,9 @@
-use Rattle.viommu.proofs.EndLemmas.{usage_only, usage_or_fault, past_only, too_long_or_fault, text_written, done_or_fault, refused_only, refused_or_fault, spent_only, read_fault_rose, write_fault_rose, refusal_text, text_cut}
+use Rattle.viommu.proofs.CommandLemmas.{command_in-form}
+use Rattle.viommu.proofs.EndLemmas.{usage_only, usage_or_fault, past_only, too_long_or_fault, text_written, script_written, made_or_fault, done_or_fault, refused_only, refused_or_fault, report_refused, verdict_written, spent_only, read_fault_rose, write_fault_rose, refusal_text, text_cut}
 use Rattle.viommu.proofs.top.plain_top.Goals as goal
+
+pub carry_out-requires : goal.carry_out-requires
+carry_out-requires g c = rw c.parse.ensures (command_in-form c.args.words.now)
 
 pub returns-clause-usage : goal.returns-clause-usage
 returns-clause-usage g c = rw (← c.parse.ensures) (usage_only _ _ _ _ c.carry_out.ensures.ends)
@@ -8,13 +12,19 @@ pub returns-clause-usage_always : goal.returns-clause-usage_always
 returns-clause-usage_always g c = rw (← c.parse.ensures) (usage_or_fault _ _ _ _ c.carry_out.ensures.ends)
 
 pub returns-clause-too_long : goal.returns-clause-too_long
-returns-clause-too_long g c = past_only _ _ _ _ c.carry_out.ensures.ends
+returns-clause-too_long g c = rw (← c.parse.ensures) (past_only _ _ _ _ c.carry_out.ensures.ends)
 
 pub returns-clause-too_long_always : goal.returns-clause-too_long_always
 returns-clause-too_long_always g c = rw (← c.parse.ensures) (too_long_or_fault _ _ _ _ c.carry_out.ensures.ends)
 
 pub returns-clause-ok : goal.returns-clause-ok
 returns-clause-ok g c = rw (← c.parse.ensures) (text_written _ _ _ _ c.carry_out.ensures.ends)
+
+pub returns-clause-made : goal.returns-clause-made
+returns-clause-made g c = rw (← c.parse.ensures) (script_written _ _ _ _ c.carry_out.ensures.ends)
+
+pub returns-clause-made_always : goal.returns-clause-made_always
+returns-clause-made_always g c = rw (← c.parse.ensures) (made_or_fault _ _ _ _ c.carry_out.ensures.ends)
 
 pub returns-clause-accepted : goal.returns-clause-accepted
 returns-clause-accepted g c = rw (← c.parse.ensures) (done_or_fault _ _ _ _ c.carry_out.ensures.ends)
@@ -24,6 +34,12 @@ returns-clause-bad_script g c = rw (← c.parse.ensures) (refused_only _ _ _ _ c
 
 pub returns-clause-bad_script_always : goal.returns-clause-bad_script_always
 returns-clause-bad_script_always g c = rw (← c.parse.ensures) (refused_or_fault _ _ _ _ c.carry_out.ensures.ends)
+
+pub returns-clause-bad_report : goal.returns-clause-bad_report
+returns-clause-bad_report g c = rw (← c.parse.ensures) (report_refused _ _ _ _ c.carry_out.ensures.ends)
+
+pub returns-clause-wrong : goal.returns-clause-wrong
+returns-clause-wrong g c = rw (← c.parse.ensures) (verdict_written _ _ _ _ c.carry_out.ensures.ends)
 
 pub returns-clause-spent : goal.returns-clause-spent
 returns-clause-spent g c = rw (← c.parse.ensures) (spent_only _ _ _ _ c.carry_out.ensures.ends)
