@@ -1,0 +1,70 @@
+-- How much there is at most, and that there is room for what a turn adds.
+use Rattle.std.specs.Prelude.{◌≡◌, ◌⊎◌, ◌^◌, ◌+◌, ◌<◌, ◌≤◌, ℕ, true, List, [], ◌∷◌, length, Option, Some, None}
+use Rattle.vi_bytes.specs.declared.span.Span.{Span}
+use Rattle.vi_script.specs.Value.{ScriptValue}
+use Rattle.vi_model.specs.Lanes.{Down, Invalidate, Miss}
+use Rattle.vi_model.specs.Grants.{lease_under}
+use Rattle.vi_model.specs.Control.{Queued, Setting, Port, Link, Control, Started, driver_count, port_of, link_of}
+use Rattle.vi_model.specs.Places.{place_count}
+use Rattle.vi_model.specs.Starts.{queued_call, setting_call}
+use Rattle.vi_model.specs.Serves.{page_of}
+use Rattle.vi_model.specs.Backs.{Asks, wish}
+use Rattle.vi_model.specs.Worlds.{World, seat_of}
+use Rattle.vi_model.specs.Rooms.{is_map, mappings_in}
+use Rattle.vi_model.specs.Playable.{IsPlayable}
+use Rattle.vi_model.specs.Sound.{IsSound}
+
+-- a sound world's history has fewer entries than a ticket of 64 bits can count
+abbrev pub HistoryFits : Type 0
+HistoryFits = (s : ScriptValue) (w : World) → IsPlayable s → IsSound s w → length w.history < 2 ^ 64
+
+-- the queued requests and the open removals are at most 8 together
+abbrev pub CallsFit : Type 0
+CallsFit = (s : ScriptValue) (w : World) → IsPlayable s → IsSound s w → length w.control.queue + length w.control.removals ≤ 8
+
+-- a back end's lanes have at most 9 frames down and 8 acknowledgements up, and one miss and one reply
+pub record HasFewFrames (x : Link) : Type 0 where
+  pub down : length x.down ≤ 9
+  pub acks : x.acks ≤ 8
+  pub up : length x.up ≤ 1
+  pub replies : length x.replies ≤ 1
+
+abbrev pub LanesFit : Type 0
+LanesFit = (s : ScriptValue) (w : World) (place : ℕ) → IsPlayable s → IsSound s w → place < place_count s → HasFewFrames (link_of w.control place)
+
+-- There is room for a call that starts: for its removal and the Invalidates of it, and for its mapping.
+pub record HasStartRoom (s : ScriptValue) (c : Control) (call : Started) : Type 0 where
+  pub removal : length c.removals < 8
+  pub lanes : (place : ℕ) → place < place_count s → (let x : Link = link_of c place in length x.down) ≤ 8
+  pub mapping : is_map (Some call.task) ≡ true → (domain : ℕ) → mappings_in domain c.dev.domains + 1 ≤ c.mappings
+
+abbrev pub RequestsFit : Type 0
+RequestsFit = (s : ScriptValue) (w : World) (q : Queued) (rest : List Queued) → IsPlayable s → IsSound s w → w.control.queue ≡ q ∷ rest → HasStartRoom s w.control (queued_call q)
+
+abbrev pub SettingsFit : Type 0
+SettingsFit = (s : ScriptValue) (w : World) (driver : ℕ) (x : Setting) → IsPlayable s → IsSound s w → driver < driver_count → (let p : Port = port_of w.control driver in p.setting) ≡ Some x
+    → HasStartRoom s w.control (setting_call driver x)
+
+-- a miss is on its way up, or parked
+abbrev pub IsThere : Link → Miss → Type 0
+IsThere x m = ((rest : List Miss) × (x.up ≡ m ∷ rest)) ⊎ (x.parked ≡ Some m)
+
+-- There is room to serve a miss: for a grant under its page, for the Update and the Reply, and for a record.
+pub record HasMissRoom (c : Control) (x : Link) (m : Miss) : Type 0 where
+  pub grant : lease_under (page_of m.iova) x.grants ≡ None → 1 ≤ x.spare
+  pub update : length x.down ≤ 8
+  pub reply : x.replies ≡ []
+  pub shown : 1 ≤ c.events.room
+
+abbrev pub MissesFit : Type 0
+MissesFit = (s : ScriptValue) (w : World) (place : ℕ) (m : Miss) → IsPlayable s → IsSound s w → place < place_count s → IsThere (link_of w.control place) m
+    → HasMissRoom w.control (link_of w.control place) m
+
+-- a back end that asks has no other miss on its way up
+abbrev pub AsksFit : Type 0
+AsksFit = (s : ScriptValue) (w : World) (place : ℕ) (m : Miss) → IsSound s w → place < place_count s → wish s place (seat_of w place) ≡ Asks m → (let x : Link = link_of w.control place in x.up) ≡ []
+
+-- a back end that takes an Invalidate finds room for the acknowledgement
+abbrev pub AcksFit : Type 0
+AcksFit = (s : ScriptValue) (w : World) (place : ℕ) (reach : Option Span) (rest : List Down) → IsPlayable s → IsSound s w → place < place_count s
+    → (let x : Link = link_of w.control place in x.down) ≡ Invalidate reach ∷ rest → (let x : Link = link_of w.control place in x.acks) < 8
