@@ -522,3 +522,33 @@ report
 writes
 bad report line 1
 ";
+
+/// Two drivers and four endpoints.
+pub const NETWORK: &str = "# two network cards and two disks
+memory 64
+queue 64
+cache 8
+endpoint 16
+endpoint 24
+endpoint 32
+endpoint 40
+reserve 16 msi 0xfee00000 0xfeefffff
+d0 probe 16
+d0 attach 1 16
+d0 attach 1 24
+d1 attach 2 32
+d1 attach 2 40
+d0 map 1 0xffffe000 0xffffefff 0x2000 r
+d0 map 1 0xfffff000 0xffffffff 0x3000 rw
+d1 map 2 0xffff0000 0xffffffff 0x10000 rw
+b16 read 0xffffe000 64 after d0.4
+b24 write 0xfffff800 48656c6c6f after d0.5
+b32 write 0xffff0ff8 000102030405060708090a0b0c0d0e0f after d1.3
+b40 read 0xffff4000 64 after d1.3
+d0 unmap 1 0xffffe000 0xffffefff after b16.1
+d0 map 1 0xffffe000 0xffffefff 0x5000 r
+b16 read 0xffffe000 64 after d0.7
+d1 unmap 2 0xffff0000 0xffffffff
+d1 detach 2 40
+b40 read 0xffff4000 4 after d1.5
+";

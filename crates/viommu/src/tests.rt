@@ -1,18 +1,22 @@
 //! What no clause says: calls with ample memory, faults in mid-stream, and the adapters.
-use crate::cases::{CHECK, ONE};
+ghost use Rattle.std.specs.Prelude.{◌≤◌};
+
+use crate::cases::{CHECK, NETWORK, ONE};
 use crate::input::{InputFault, read_input};
 use crate::list_sink::ListSink;
 use crate::list_source::ListSource;
+use crate::one::one_thread;
 use crate::output::write_text;
 use crate::standard::{Reading, Writing};
 use crate::status::Status;
-use crate::top::plain_top;
+use crate::top::{INPUT_LIMIT, plain_top};
 use crate::words::number;
 use std::alloc::Global;
 use std::io::{self, Read, Write};
 use std::test::Fail;
 use vi_bytes::{Bytes, Items};
-use vi_script::BadKind;
+use vi_make::{make, summary};
+use vi_script::{BadKind, parse};
 
 /// The words of a command line that is split at spaces.
 fn split(alloc: Global, line: &str) -> Result<Vec<String>, Fail> {
@@ -166,19 +170,52 @@ fn check_gives_its_verdicts(rt: HostRuntime) -> Result<(), Fail> {
     Ok(())
 }
 
+/// What `check` writes for the report that `one` writes for the script.
+fn judged(alloc: Global, script: &[u8]) -> Result<Vec<u8>, Fail> {
+    let (_, report) = ran(alloc, "one", script, &[], 9999, &[])?;
+    let mut input = Vec::from_slice(alloc, script)?;
+    input.extend_from_slice(b"report\n")?;
+    input.extend_from_slice(report.as_slice())?;
+    let (_, verdict) = ran(alloc, "check", input.as_slice(), &[], 99, &[])?;
+    Ok(verdict)
+}
+
 #[test]
-fn a_load_script_is_replied_to(rt: HostRuntime) -> Result<(), Fail> {
+fn replies_of_one_are_legal(rt: HostRuntime) -> Result<(), Fail> {
     let alloc = rt.alloc();
+    let legal = b"legal\n".as_slice();
+    assert_eq!(rt; judged(alloc, NETWORK.as_bytes())?.as_slice(), legal);
     let (status, script) = ran(alloc, "make 1", b"", &[], 9999, &[])?;
     assert_eq!(rt; status, Status::Ok);
-    let (status, report) = ran(alloc, "one", script.as_slice(), &[], 9999, &[])?;
-    assert_eq!(rt; status, Status::Ok);
-    let mut both = script;
-    both.extend_from_slice(b"report\n")?;
-    both.extend_from_slice(report.as_slice())?;
-    let (status, verdict) = ran(alloc, "check", both.as_slice(), &[], 9999, &[])?;
-    assert_eq!(rt; status, Status::Ok);
-    assert_eq!(rt; verdict.as_slice(), b"legal\n".as_slice());
+    assert_eq!(rt; judged(alloc, script.as_slice())?.as_slice(), legal);
+    Ok(())
+}
+
+/// The summary of the replies to the load script of so many rounds.
+fn summed(alloc: Global, rounds: u32) -> Result<Bytes, Fail>
+    requires some { 1 ≤ rounds }
+    requires most { rounds ≤ 400 }
+{
+    let text = make(alloc, rounds)?;
+    let script = parse(
+        alloc,
+        &text.as_slice()[..text.len().min(INPUT_LIMIT as usize)],
+    )?;
+    let outcome = one_thread(alloc, &script)?;
+    Ok(summary(alloc, rounds, &outcome)?)
+}
+
+#[test]
+fn load_scripts_have_their_sums(rt: HostRuntime) -> Result<(), Fail> {
+    let alloc = rt.alloc();
+    assert_eq!(rt;
+        summed(alloc, 1)?.as_slice(),
+        b"load 1 entries 24 ok 12 faults 4 sum 6\n".as_slice()
+    );
+    assert_eq!(rt;
+        summed(alloc, 100)?.as_slice(),
+        b"load 100 entries 2004 ok 804 faults 400 sum 43080\n".as_slice()
+    );
     Ok(())
 }
 
