@@ -211,10 +211,10 @@ any_none (b ∷ bs) zero h = (or_parts b (any bs) h).0
 any_none (b ∷ bs) (suc k) h = any_none bs k (or_parts b (any bs) h).1
 
 -- the link with what the removal sends it
-abbrev told_link : Removal → ℕ → Link → Link
+abbrev pub told_link : Removal → ℕ → Link → Link
 told_link r k x = record x { down = told (waits_for k r) (reach_of r.task) x.down }
 
-tell_here : (r : Removal) (c : Control) (k : ℕ) → k < length c.mail → link_of (begun c r) k ≡ told_link r k (link_of c k)
+pub tell_here : (r : Removal) (c : Control) (k : ℕ) → k < length c.mail → link_of (begun c r) k ≡ told_link r k (link_of c k)
 tell_here r c k lt = ap (λ (x : Lanes). joined (get_or c.grants k []) (get_or c.spares k 0) x (get_or c.parked k None) (get_or c.posted k 0))
     (map_at (told_lanes r c.mail) 0 (length c.mail) k no_lanes lt ∙ ap (told_lanes r c.mail) (omega arith))
 

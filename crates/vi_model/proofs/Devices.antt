@@ -90,7 +90,7 @@ takes_parked s w k m ok lt e = record {
     none = open_one (seat_of w k).asking (length x.up + length x.replies) (let n = miss.one in let u : count_option x.parked ≡ 1 = ap (λ (o : Option Miss). count_option o) e in omega (arith, n, u))
 
 -- a place that is found is there
-below_count : (p : ℕ → Bool) (n k : ℕ) → find p (range_with_len 0 n) ≡ Some k → k < n
+pub below_count : (p : ℕ → Bool) (n k : ℕ) → find p (range_with_len 0 n) ≡ Some k → k < n
 below_count p n k h = let r = (found_below p 0 n k h).0 in omega (arith, r)
 
 setting_rule : (s : ScriptValue) (w : World) (o : Option ℕ) → SoundParts s w → first_setting w.control ≡ o → SoundParts s (after_device w (rule_setting s w.control o))

@@ -12,7 +12,7 @@ id_there [] k lt = absurd (omega (arith, lt))
 id_there (e ∷ es) zero lt = or_left (e.id == e.id) (has_endpoint es e.id) (eq-eqb e.id e.id refl)
 id_there (e ∷ es) (suc k) lt = or_right (e.id == get_or (map (λ e. e.id) es) k 0) (has_endpoint es (get_or (map (λ e. e.id) es) k 0)) (id_there es k (omega (arith, lt)))
 
-differ : (g : ℕ) (es : List EndpointSetup) (j k : ℕ) → AreEndpoints g es → j < length (map (λ e. e.id) es) → k < length (map (λ e. e.id) es) → (j ≡ k → ⊥) → get_or (map (λ e. e.id) es) j 0 ≡ get_or (map (λ e. e.id) es) k 0 → ⊥
+pub differ : (g : ℕ) (es : List EndpointSetup) (j k : ℕ) → AreEndpoints g es → j < length (map (λ e. e.id) es) → k < length (map (λ e. e.id) es) → (j ≡ k → ⊥) → get_or (map (λ e. e.id) es) j 0 ≡ get_or (map (λ e. e.id) es) k 0 → ⊥
 differ g [] j k are lj lk ne same = absurd (omega (arith, lj))
 differ g (e ∷ es) zero zero are lj lk ne same = ne refl
 differ g (e ∷ es) zero (suc k) are lj lk ne same = false≢true (sym are.1 ∙ ap (has_endpoint es) same ∙ id_there es k (omega (arith, lk)))

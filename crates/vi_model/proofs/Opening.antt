@@ -64,7 +64,7 @@ start_whole s valid =
 
 -- ---- the world
 
-same_all : {A : Type 0} (n k : ℕ) (d : A) → get_or (replicate n d) k d ≡ d
+pub same_all : {A : Type 0} (n k : ℕ) (d : A) → get_or (replicate n d) k d ≡ d
 same_all zero k d = refl
 same_all (suc n) zero d = refl
 same_all (suc n) (suc k) d = same_all n k d
@@ -73,10 +73,10 @@ all_length : {A : Type 0} (n : ℕ) (d : A) → length (replicate n d) ≡ n
 all_length zero d = refl
 all_length (suc n) d = ap suc (all_length n d)
 
-abbrev fresh_link : ℕ → Link
+abbrev pub fresh_link : ℕ → Link
 fresh_link f = record { grants = []; spare = f; down = []; acks = 0; up = []; replies = []; parked = None; posted = 0 }
 
-opening_link : (n k f : ℕ) → k < n → joined (get_or (replicate n []) k []) (get_or (replicate n f) k 0) (get_or (replicate n no_lanes) k no_lanes) (get_or (replicate n None) k None) (get_or (replicate n 0) k 0) ≡ fresh_link f
+pub opening_link : (n k f : ℕ) → k < n → joined (get_or (replicate n []) k []) (get_or (replicate n f) k 0) (get_or (replicate n no_lanes) k no_lanes) (get_or (replicate n None) k None) (get_or (replicate n 0) k 0) ≡ fresh_link f
 opening_link zero k f lt = absurd (omega (arith, lt))
 opening_link (suc n) zero f lt = refl
 opening_link (suc n) (suc k) f lt = opening_link n k f (omega (arith, lt))

@@ -28,3 +28,5 @@ pub mod Laws
 pub mod Bounds
 pub mod Delivered
 pub mod Taken
+pub mod Rounds
+pub mod Bound

@@ -1,10 +1,12 @@
 //! Laws of the core's turns, each as the contract of a function that does nothing: every turn keeps the world sound,
-//! a sound world's history is legal, and there is room in it for what a turn adds.
+//! a sound world's history is legal, there is room in it for what a turn adds, and rounds of turns finish every line.
 #![tactic(auto)]
 
+ghost use Rattle.vi_model.specs.Bound.{MovesLower};
 ghost use Rattle.vi_model.specs.Bounds.{AcksFit, AsksFit, CallsFit, HistoryFits, LanesFit, MissesFit, RequestsFit, SettingsFit};
 ghost use Rattle.vi_model.specs.Delivered.{RecordsAreShownWell};
 ghost use Rattle.vi_model.specs.Laws.{AccessesKeepSound, ActorsAccess, ActorsGoOn, ControlKeepsSound, EveryRunIsLegal, FewerLeasesKeepSound, FinishedIsOrdered, OnlyMovedChanges, OpeningIsSound, OthersStay, PlacesHaveIds, SoundIsLegal, TurnsKeepSound};
+ghost use Rattle.vi_model.specs.Rounds.{FinishedHasFinished, RoundsFinish};
 ghost use Rattle.vi_model.specs.Taken.{FinishedIsTaken, StartedIsTaken};
 
 /// The world of a playable script in which nothing has happened is sound.
@@ -129,4 +131,20 @@ pub fn actors_access()
 /// The back end at a place is the one of the endpoint's id.
 pub fn places_have_ids()
     ensures { PlacesHaveIds }
+{}
+
+/// A turn that moves lowers an upper bound on the moves that are left.
+pub fn moves_lower()
+    ensures { MovesLower }
+{}
+
+/// Whatever turns the actors take first, in any order, at most 24 * (calls + 1) * (back ends + 1) rounds then finish
+/// every line; a driver's line is a call, and so is each part of a transfer.
+pub fn rounds_finish()
+    ensures { RoundsFinish }
+{}
+
+/// Where the rounds end, every line of every caller is finished.
+pub fn finished_has_finished()
+    ensures { FinishedHasFinished }
 {}
