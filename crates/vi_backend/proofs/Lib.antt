@@ -1,0 +1,4 @@
+pub mod Cached
+pub mod Cascade
+pub mod Agreeing
+pub mod Copying

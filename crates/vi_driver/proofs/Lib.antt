@@ -1,0 +1,4 @@
+pub mod Batches
+pub mod Finished
+pub mod Kept
+pub mod Parcels

@@ -1,0 +1,4 @@
+pub mod Parcels
+pub mod Drivers
+pub mod Wishes
+pub mod Laws
