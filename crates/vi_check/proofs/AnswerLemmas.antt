@@ -15,7 +15,9 @@ use Rattle.vi_bytes.specs.declared.lease.Need.TheVariants as need
 use Rattle.vi_history.specs.Device.{Dev, One, Domain, Endpoint, endpoint_of, domain_of}
 use Rattle.vi_history.specs.Kinds.{is_fault}
 use Rattle.vi_history.specs.Replies.{Answer, reply, request_answer, reading_answer, read_at, write_at}
-use Rattle.vi_history.specs.Requests.{Reading, Silent, Malformed, Asks, reading}
+use Rattle.vi_history.specs.Requests.{reading}
+use Rattle.vi_history.specs.declared.reading.Reading.{Reading}
+use Rattle.vi_history.specs.declared.reading.Reading.TheVariants.{Silent, Malformed, Asks}
 use Rattle.vi_history.specs.Translation.{Look, Leads, Nowhere, look, look_of, look_by, look_in_domain, look_in_mapping, permits, is_in_memory, found_for, translate}
 use Rattle.vi_history.specs.declared.reason.TheConstants.{MAPPING, UNKNOWN}
 use Rattle.vi_history.specs.declared.call.Call.{Call}

@@ -10,7 +10,8 @@ use Rattle.vi_history.specs.declared.request.Request.TheVariants.{Attach, Detach
 use Rattle.vi_history.specs.Device.{One, Dev}
 use Rattle.vi_history.specs.Statuses.{status}
 use Rattle.vi_history.specs.Effects.{commit, with_bypass}
-use Rattle.vi_history.specs.Requests.{Silent, Malformed, Asks, reading, request_bytes}
+use Rattle.vi_history.specs.Requests.{reading, request_bytes}
+use Rattle.vi_history.specs.declared.reading.Reading.TheVariants.{Silent, Malformed, Asks}
 use Rattle.vi_history.specs.Translation.{look, translate}
 use Rattle.vi_history.specs.Replies.{Answer, status_answer, nothing_answer, set_answer, read_answer, wrote_answer, fault_answer, reply, next}
 use Rattle.vi_history.specs.Runs.{run}

@@ -5,7 +5,9 @@ use Rattle.vi_bytes.specs.Properties.{property_bytes}
 use Rattle.vi_bytes.specs.declared.span.TheConstants.{PAGE}
 use Rattle.vi_bytes.specs.declared.lease.Need.TheVariants as need
 use Rattle.vi_history.specs.Device.{Dev, One, Endpoint, endpoint_of}
-use Rattle.vi_history.specs.Requests.{Reading, Silent, Malformed, Asks, reading}
+use Rattle.vi_history.specs.Requests.{reading}
+use Rattle.vi_history.specs.declared.reading.Reading.{Reading}
+use Rattle.vi_history.specs.declared.reading.Reading.TheVariants.{Silent, Malformed, Asks}
 use Rattle.vi_history.specs.Statuses.{status}
 use Rattle.vi_history.specs.Effects.{commit, with_bypass}
 use Rattle.vi_history.specs.Translation.{translate}

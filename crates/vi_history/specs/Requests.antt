@@ -3,6 +3,8 @@ use Rattle.std.specs.Prelude.{◌==◌, ℕ, Bool, not, ◌&&◌, nat_lt, nat_le
 use Rattle.std.specs.List.{list_all}
 use Rattle.byteorder.specs.Endian.{little_bytes}
 use Rattle.vi_bytes.specs.Fields.{field, byte_at}
+use Rattle.vi_history.specs.declared.reading.Reading.{Reading}
+use Rattle.vi_history.specs.declared.reading.Reading.TheVariants.{Silent, Malformed, Asks}
 use Rattle.vi_history.specs.declared.request.TheConstants.{ATTACH, DETACH, MAP, UNMAP, PROBE}
 use Rattle.vi_history.specs.declared.request.Request.{Request}
 use Rattle.vi_history.specs.declared.request.Request.TheVariants.{Attach, Detach, Map, Unmap, Probe}
@@ -54,14 +56,7 @@ request_in kind bytes =
     if kind == UNMAP then Unmap (field 4 4 bytes) (field 8 8 bytes) (field 16 8 bytes) else
     Probe (field 4 4 bytes))))
 
--- What readable bytes with so many writable ones come to: Silent, nothing can be answered; Malformed,
--- the answer is INVAL, with 512 zero bytes where the type is PROBE; or they ask for a request.
-pub data Reading : Type 0 where
-  Silent : Reading
-  Malformed : (probe : Bool) → Reading
-  Asks : (request : Request) → Reading
-
--- The rules are tried in order: the writable part is too short, the size isn't the type's, a reserved
+-- What readable bytes with so many writable ones come to. The rules are tried in order: the writable part is too short, the size isn't the type's, a reserved
 -- byte of the body isn't 0.
 abbrev pub reading_of : ℕ → List ℕ → ℕ → Reading
 reading_of kind read write =

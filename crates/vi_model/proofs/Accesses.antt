@@ -24,7 +24,8 @@ use Rattle.vi_script.specs.declared.line.Await.{Await}
 use Rattle.vi_script.specs.Value.{ScriptValue}
 use Rattle.vi_script.specs.Calls.{lines_of, line_of, back_call, call_in, call_of, parts_of}
 use Rattle.vi_model.specs.Lanes.{Down, Miss}
-use Rattle.vi_model.specs.Grants.{Grant, touches}
+use Rattle.vi_model.specs.Grants.{touches}
+use Rattle.vi_grants.specs.declared.row.Grant.{Grant}
 use Rattle.vi_model.specs.Caches.{cached_at, fronted}
 use Rattle.vi_model.specs.Removals.{Removal}
 use Rattle.vi_model.specs.Control.{Link}

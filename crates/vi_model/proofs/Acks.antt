@@ -1,5 +1,5 @@
 -- An acknowledgement is served.
-use Rattle.std.proofs.Common.{◌≡◌, ◌≢◌, ℕ, zero, suc, Bool, true, false, cond, List, [], ◌∷◌, ◌++◌, set, get_or, length, Option, Some, refl, arith, ◌∙◌, ap, sym}
+use Rattle.std.proofs.Common.{◌≡◌, ◌≢◌, ◌==◌, ◌-◌, ◌^◌, ◌&&◌, ℕ, zero, suc, Bool, true, false, cond, List, [], ◌∷◌, ◌++◌, set, get_or, length, Option, Some, None, refl, arith, ◌∙◌, ap, sym}
 use Rattle.vi_bytes.specs.Leases.{has_page}
 use Rattle.vi_bytes.specs.declared.span.Span.{Span}
 use Rattle.vi_bytes.specs.declared.lease.Lease.{Lease}
@@ -9,11 +9,14 @@ use Rattle.std.proofs.lemmas.Bool.{and_parts}
 use Rattle.vi_bytes.specs.Spans.{meets, page_span}
 use Rattle.vi_history.specs.Device.{endpoint_of}
 use Rattle.vi_history.specs.Effects.{endpoint_is_in}
-use Rattle.vi_history.specs.Requests.{Silent, Malformed, Asks}
+use Rattle.vi_history.specs.declared.reading.Reading.TheVariants.{Silent, Malformed, Asks}
 use Rattle.vi_history.specs.declared.request.Request.TheVariants.{Attach, Detach, Map, Unmap, Probe}
-use Rattle.vi_model.specs.Tasks.{Task, Reads, Sets, closes, reach_of, reaches}
+use Rattle.vi_model.specs.Tasks.{closes, reach_between, reach_of, reaches}
+use Rattle.vi_model.specs.declared.task.Task.{Task}
+use Rattle.vi_model.specs.declared.task.Task.TheVariants.{Reads, Sets}
 use Rattle.vi_model.specs.Lanes.{Down, sent_reaches}
-use Rattle.vi_model.specs.Grants.{Grant, lease_under, spared}
+use Rattle.vi_model.specs.Grants.{lease_under, spared}
+use Rattle.vi_grants.specs.declared.row.Grant.{Grant}
 use Rattle.vi_model.specs.Removals.{Removal, waits_for, acknowledged, acked, acked_grants, awaited_reaches}
 use Rattle.vi_model.specs.Links.{AreDistinct, AreClearOf, WaitsWhereClosing, IsLinked}
 use Rattle.vi_model.proofs.Leases.{page_none, spared_lookup, spared_distinct, among_spared, updates_spared}
@@ -21,6 +24,15 @@ use Rattle.vi_model.proofs.Leases.{page_none, spared_lookup, spared_distinct, am
 -- in each removal that closes a page of a grant it is waited for
 abbrev pub AllWait : Dev → ℕ → ℕ → List Grant → List Removal → Type 0
 AllWait dev e k g ops = AllByRecursion (WaitsWhereClosing dev e k g) ops
+
+-- a page with an address of a range is within its reach
+range_reaches : (first last p : ℕ) → meets (record { first = first; last = last }) (page_span p) ≡ true → reaches (reach_between first last) p ≡ true
+range_reaches first last p h = go (first == 0) (last == 2 ^ 64 - 1)
+  where
+    go : (a b : Bool) → reaches (cond (a && b) None (Some (record { first = first; last = last }))) p ≡ true
+    go true true = refl
+    go true false = h
+    go false b = h
 
 -- what is closed is within the reach
 pub closes_reaches : (dev : Dev) (q : Task) (e p : ℕ) → closes dev q e p ≡ true → reaches (reach_of q) p ≡ true
@@ -30,7 +42,7 @@ closes_reaches dev (Reads (Malformed probe)) e p h = absurd cc
 closes_reaches dev (Reads (Asks (Attach d x flags))) e p h = refl
 closes_reaches dev (Reads (Asks (Detach d x))) e p h = refl
 closes_reaches dev (Reads (Asks (Map d first last g flags))) e p h = refl
-closes_reaches dev (Reads (Asks (Unmap d first last))) e p h = (and_parts (endpoint_is_in d (endpoint_of dev e)) (meets (record { first = first; last = last }) (page_span p)) h).1
+closes_reaches dev (Reads (Asks (Unmap d first last))) e p h = range_reaches first last p ((and_parts (endpoint_is_in d (endpoint_of dev e)) (meets (record { first = first; last = last }) (page_span p)) h).1)
 closes_reaches dev (Reads (Asks (Probe x))) e p h = absurd cc
 closes_reaches dev (Sets on) e p h = refl
 

@@ -8,7 +8,8 @@ use Rattle.vi_history.specs.Translation.{permits, lease}
 use Rattle.vi_script.specs.Value.{ScriptValue}
 use Rattle.vi_script.specs.Calls.{lines_of}
 use Rattle.vi_model.specs.Lanes.{Miss, count_updates}
-use Rattle.vi_model.specs.Grants.{Grant, piece, lease_under}
+use Rattle.vi_model.specs.Grants.{piece, lease_under}
+use Rattle.vi_grants.specs.declared.row.Grant.{Grant}
 use Rattle.vi_model.specs.Caches.{cached_at}
 use Rattle.vi_model.specs.Control.{Link, with_link, link_of}
 use Rattle.vi_model.specs.Places.{place_count, id_at, back_at}

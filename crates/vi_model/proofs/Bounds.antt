@@ -13,7 +13,8 @@ use Rattle.vi_script.specs.Valid.{IsValid}
 use Rattle.vi_script.specs.Calls.{lines_of}
 use Rattle.vi_script.specs.Limits.{longest_batch_from, longest_batch}
 use Rattle.vi_script.specs.Order.{batch_of}
-use Rattle.vi_model.specs.Tasks.{Task, reach_of}
+use Rattle.vi_model.specs.Tasks.{reach_of}
+use Rattle.vi_model.specs.declared.task.Task.{Task}
 use Rattle.vi_model.specs.Lanes.{Down, Update, Invalidate, sent_reaches, count_updates}
 use Rattle.vi_model.specs.Removals.{Removal, waits_for, awaited_reaches}
 use Rattle.vi_model.specs.Control.{Queued, Answered, driver_count, port_of, link_of}

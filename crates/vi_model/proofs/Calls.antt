@@ -8,7 +8,7 @@ use Rattle.vi_bytes.specs.declared.span.Span.{Span}
 use Rattle.vi_bytes.specs.declared.lease.Lease.{Lease}
 use Rattle.vi_history.specs.Device.{Dev, One}
 use Rattle.vi_history.specs.Kinds.{is_fault}
-use Rattle.vi_history.specs.Requests.{Silent, Malformed, Asks}
+use Rattle.vi_history.specs.declared.reading.Reading.TheVariants.{Silent, Malformed, Asks}
 use Rattle.vi_history.specs.Replies.{Answer, reply, next}
 use Rattle.vi_history.specs.declared.request.Request.TheVariants.{Attach, Detach, Map, Unmap, Probe}
 use Rattle.vi_history.specs.declared.call.Call.{Call}
@@ -18,7 +18,9 @@ use Rattle.vi_history.specs.declared.entry.Entry.{Entry}
 use Rattle.vi_script.specs.Value.{ScriptValue}
 use Rattle.vi_script.specs.Calls.{call_of, awaits_of}
 use Rattle.vi_script.specs.Order.{batch_of, entries_at, IsDue}
-use Rattle.vi_model.specs.Tasks.{Task, Reads, Sets, task_of, task_in, task_at, task_answer, task_commit, removes, closes, reach_of}
+use Rattle.vi_model.specs.Tasks.{task_of, task_in, task_at, task_answer, task_commit, removes, closes, reach_of}
+use Rattle.vi_model.specs.declared.task.Task.{Task}
+use Rattle.vi_model.specs.declared.task.Task.TheVariants.{Reads, Sets}
 use Rattle.vi_model.specs.Lanes.{Down, Update, Invalidate, Lanes, count_updates}
 use Rattle.vi_model.specs.Grants.{lease_under}
 use Rattle.vi_model.specs.Removals.{Removal, waits_for, must_wait}

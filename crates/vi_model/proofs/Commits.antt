@@ -8,14 +8,16 @@ use Rattle.vi_bytes.specs.declared.lease.Lease.{Lease}
 use Rattle.vi_bytes.specs.declared.region.Membership.{Membership}
 use Rattle.vi_bytes.specs.declared.region.Membership.TheVariants.{Unattached, Member}
 use Rattle.vi_history.specs.Device.{Dev, Endpoint, Domain, endpoint_of, domain_of}
-use Rattle.vi_history.specs.Requests.{Silent, Malformed, Asks}
+use Rattle.vi_history.specs.declared.reading.Reading.TheVariants.{Silent, Malformed, Asks}
 use Rattle.vi_history.specs.Statuses.{status, map_into, any_mapping_meets}
 use Rattle.vi_history.specs.Effects.{with_domain, endpoint_is_in, attached, effect, commit, with_bypass}
 use Rattle.vi_history.specs.Translation.{Look, Leads, Nowhere, look, look_of, look_by, lease, lease_for}
 use Rattle.vi_history.specs.declared.status.TheConstants.{OK, INVAL}
 use Rattle.vi_history.specs.declared.request.Request.{Request}
 use Rattle.vi_history.specs.declared.request.Request.TheVariants.{Attach, Detach, Map, Unmap, Probe}
-use Rattle.vi_model.specs.Tasks.{Task, Reads, Sets, task_commit, removes, request_removes, closes, request_closes, is_unattached}
+use Rattle.vi_model.specs.Tasks.{task_commit, removes, request_removes, closes, request_closes, is_unattached}
+use Rattle.vi_model.specs.declared.task.Task.{Task}
+use Rattle.vi_model.specs.declared.task.Task.TheVariants.{Reads, Sets}
 use Rattle.vi_model.proofs.Finds.{find_moved_other, find_made}
 use Rattle.vi_model.proofs.Keeps.{keep_map, keep_unmap, keep_moved}
 

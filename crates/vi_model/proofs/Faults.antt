@@ -30,7 +30,8 @@ use Rattle.vi_model.specs.Places.{place_count, id_at, back_at}
 use Rattle.vi_model.specs.Starts.{any}
 use Rattle.vi_model.specs.Serves.{page_of}
 use Rattle.vi_model.specs.Worlds.{World, seat_of}
-use Rattle.vi_model.specs.Tasks.{Task, task_of}
+use Rattle.vi_model.specs.Tasks.{task_of}
+use Rattle.vi_model.specs.declared.task.Task.{Task}
 use Rattle.vi_model.specs.Asking.{one_if}
 use Rattle.vi_model.specs.Tracks.{stands_at}
 use Rattle.vi_model.specs.Rooms.{pages_of, is_back, all_transfers}

@@ -9,7 +9,8 @@ use Rattle.vi_history.specs.Device.{Dev}
 use Rattle.vi_history.specs.Translation.{lease}
 use Rattle.vi_model.specs.Tasks.{closes, reach_of, reaches}
 use Rattle.vi_model.specs.Lanes.{Down, Update, Invalidate, sent_reaches, count_updates}
-use Rattle.vi_model.specs.Grants.{Grant, piece, touches, lease_under, granted}
+use Rattle.vi_model.specs.Grants.{piece, touches, lease_under, granted}
+use Rattle.vi_grants.specs.declared.row.Grant.{Grant}
 use Rattle.vi_model.specs.Removals.{Removal, waits_for, awaited_reaches, closes_page, closed}
 use Rattle.vi_model.specs.Links.{IsGranted, UpdatesAreGranted, UpdatesAreClear, AreClearBehind, AreClearOf, IsLinked}
 use Rattle.vi_model.proofs.Acks.{AllWait}

@@ -7,7 +7,8 @@ use Rattle.vi_bytes.specs.Leases.{has_page, share_page}
 use Rattle.vi_bytes.specs.declared.span.Span.{Span}
 use Rattle.vi_bytes.specs.declared.lease.Lease.{Lease}
 use Rattle.vi_model.specs.Lanes.{Down, Update, Invalidate}
-use Rattle.vi_model.specs.Grants.{Grant, some_page, touches, lease_under, spared, others, granted}
+use Rattle.vi_model.specs.Grants.{some_page, touches, lease_under, spared, others, granted}
+use Rattle.vi_grants.specs.declared.row.Grant.{Grant}
 use Rattle.vi_model.specs.Caches.{apart, untouched, without_page}
 use Rattle.vi_model.specs.Links.{AreDistinct, IsGranted, AreGranted, UpdatesAreGranted, AreClear, UpdatesAreClear}
 

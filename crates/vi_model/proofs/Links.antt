@@ -3,7 +3,7 @@ use Rattle.std.proofs.Common.{◌≡◌, ℕ, ◌<◌, List, [], get_or, set, le
 use Rattle.std.proofs.lemmas.Bool.{cases_eq}
 use Rattle.std.proofs.lemmas.List.{get_or-set_same, get_or-set_other}
 use Rattle.vi_model.specs.Lanes.{Miss, Lanes}
-use Rattle.vi_model.specs.Grants.{Grant}
+use Rattle.vi_grants.specs.declared.row.Grant.{Grant}
 use Rattle.vi_model.specs.Control.{Link, Control, joined, with_link, lanes_of, link_of, no_lanes}
 use Rattle.vi_model.specs.Backs.{Seat, no_seat}
 use Rattle.vi_model.specs.Sound.{HasTables}

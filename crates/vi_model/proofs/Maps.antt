@@ -10,7 +10,7 @@ use Rattle.vi_bytes.specs.declared.span.Span.{Span}
 use Rattle.vi_bytes.specs.declared.lease.Mapping.{Mapping}
 use Rattle.vi_bytes.specs.declared.region.Membership.TheVariants.{Unattached, Member}
 use Rattle.vi_history.specs.Device.{Dev, One, Endpoint, Domain, endpoint_of, domain_of}
-use Rattle.vi_history.specs.Requests.{Silent, Malformed, Asks}
+use Rattle.vi_history.specs.declared.reading.Reading.TheVariants.{Silent, Malformed, Asks}
 use Rattle.vi_history.specs.Statuses.{status}
 use Rattle.vi_history.specs.Effects.{moved, is_inhabited, inhabited, with_domain, with_mappings, endpoint_is_in, attached, effect, commit}
 use Rattle.vi_history.specs.Replies.{next}
@@ -34,7 +34,9 @@ use Rattle.vi_script.specs.Legal.{AreCalls}
 use Rattle.vi_script.specs.Order.{entries_at, batch_of, IsDue, AreDue}
 use Rattle.vi_script.proofs.IndexLemmas.{same_caller-self}
 use Rattle.vi_order.proofs.Lines as Lines
-use Rattle.vi_model.specs.Tasks.{Task, Reads, Sets, task_of, task_in, task_at, task_commit}
+use Rattle.vi_model.specs.Tasks.{task_of, task_in, task_at, task_commit}
+use Rattle.vi_model.specs.declared.task.Task.{Task}
+use Rattle.vi_model.specs.declared.task.Task.TheVariants.{Reads, Sets}
 use Rattle.vi_model.specs.Control.{driver_count, port_of}
 use Rattle.vi_model.specs.Worlds.{World, stand_of}
 use Rattle.vi_model.specs.Asking.{one_if}

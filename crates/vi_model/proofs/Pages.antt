@@ -18,7 +18,8 @@ use Rattle.vi_model.specs.Places.{id_at, back_at}
 use Rattle.vi_model.specs.Serves.{page_of}
 use Rattle.vi_model.specs.Backs.{Access, access_in, access_at}
 use Rattle.vi_model.specs.Tasks.{reach_of}
-use Rattle.vi_model.specs.Grants.{Grant, touches, lease_under, spared, others, granted}
+use Rattle.vi_model.specs.Grants.{touches, lease_under, spared, others, granted}
+use Rattle.vi_grants.specs.declared.row.Grant.{Grant}
 use Rattle.vi_model.specs.Removals.{Removal, waits_for, acked_grants}
 use Rattle.vi_model.specs.Links.{AreDistinct}
 use Rattle.vi_model.specs.Rooms.{is_in, distinct, HasGrantRoom, pages_from, job_pages, line_pages, pages_of, all_parts}

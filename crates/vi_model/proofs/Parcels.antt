@@ -16,7 +16,9 @@ use Rattle.vi_script.specs.Limits.{is_job}
 use Rattle.vi_script.specs.Judging.{job_runs_over}
 use Rattle.vi_script.specs.Calls.{same_caller, line_of, driver_call, call_in, call_of}
 use Rattle.vi_script.proofs.IndexLemmas.{same_caller-eq}
-use Rattle.vi_model.specs.Tasks.{Task, Reads, Sets, task_in, task_at}
+use Rattle.vi_model.specs.Tasks.{task_in, task_at}
+use Rattle.vi_model.specs.declared.task.Task.{Task}
+use Rattle.vi_model.specs.declared.task.Task.TheVariants.{Reads, Sets}
 use Rattle.vi_model.specs.Drivers.{Parcel, Chain, Switch, parcel_of}
 use Rattle.vi_model.specs.Playable.{JobFits, IsPlayable}
 

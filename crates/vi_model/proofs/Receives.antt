@@ -4,7 +4,7 @@ use Rattle.vi_bytes.specs.declared.span.Span.{Span}
 use Rattle.vi_bytes.specs.declared.lease.Lease.{Lease}
 use Rattle.vi_history.specs.Device.{Dev}
 use Rattle.vi_model.specs.Lanes.{Down, Update, Invalidate, sent_reaches}
-use Rattle.vi_model.specs.Grants.{Grant}
+use Rattle.vi_grants.specs.declared.row.Grant.{Grant}
 use Rattle.vi_model.specs.Caches.{apart, untouched, put}
 use Rattle.vi_model.specs.Removals.{Removal}
 use Rattle.vi_model.specs.Links.{UpdatesAreClear, AreClearOf, IsLinked}

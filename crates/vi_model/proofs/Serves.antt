@@ -20,7 +20,8 @@ use Rattle.vi_script.specs.Calls.{call_of, awaits_of}
 use Rattle.vi_script.specs.Order.{Place, IsDue}
 use Rattle.vi_script.proofs.IndexLemmas.{same_caller-self}
 use Rattle.vi_model.specs.Lanes.{Down, Update, Invalidate, Miss, count_updates}
-use Rattle.vi_model.specs.Grants.{Grant, piece}
+use Rattle.vi_model.specs.Grants.{piece}
+use Rattle.vi_grants.specs.declared.row.Grant.{Grant}
 use Rattle.vi_model.specs.Removals.{Removal, waits_for, acknowledged, acked, closed}
 use Rattle.vi_model.specs.Cuts.{open_run}
 use Rattle.vi_model.specs.Control.{Link, Control, port_of, link_of, with_link}

@@ -6,9 +6,11 @@ use Rattle.vi_bytes.specs.Leases.{has_page}
 use Rattle.vi_bytes.specs.declared.span.Span.{Span}
 use Rattle.vi_bytes.specs.declared.lease.Lease.{Lease}
 use Rattle.vi_history.specs.Device.{Dev}
-use Rattle.vi_model.specs.Tasks.{Task, task_commit, removes, closes, reach_of}
+use Rattle.vi_model.specs.Tasks.{task_commit, removes, closes, reach_of}
+use Rattle.vi_model.specs.declared.task.Task.{Task}
 use Rattle.vi_model.specs.Lanes.{Down, Update, Invalidate, sent_reaches}
-use Rattle.vi_model.specs.Grants.{Grant, piece, some_page, lease_under}
+use Rattle.vi_model.specs.Grants.{piece, some_page, lease_under}
+use Rattle.vi_grants.specs.declared.row.Grant.{Grant}
 use Rattle.vi_model.specs.Removals.{Removal, waits_for, is_ready, awaited_reaches, must_wait, first_ready, without_first}
 use Rattle.vi_model.specs.Links.{UpdatesAreGranted, UpdatesAreClear, AreClearBehind, AreClearOf, IsLinked}
 use Rattle.vi_model.proofs.Commits.{keep_lease, closes_same}

@@ -6,9 +6,11 @@ use Rattle.vi_bytes.specs.Leases.{has_page}
 use Rattle.vi_bytes.specs.declared.lease.Lease.{Lease}
 use Rattle.vi_history.specs.Device.{Dev}
 use Rattle.vi_script.specs.Value.{ScriptValue}
-use Rattle.vi_model.specs.Tasks.{Task, closes}
+use Rattle.vi_model.specs.Tasks.{closes}
+use Rattle.vi_model.specs.declared.task.Task.{Task}
 use Rattle.vi_model.specs.Lanes.{Down, Update, Invalidate}
-use Rattle.vi_model.specs.Grants.{Grant, lease_under}
+use Rattle.vi_model.specs.Grants.{lease_under}
+use Rattle.vi_grants.specs.declared.row.Grant.{Grant}
 use Rattle.vi_model.specs.Control.{link_of}
 use Rattle.vi_model.specs.Places.{place_count, id_at}
 use Rattle.vi_model.specs.Starts.{awaited_by, any}

@@ -10,13 +10,15 @@ use Rattle.vi_bytes.specs.declared.lease.Mapping.{Mapping}
 use Rattle.vi_bytes.specs.declared.region.Membership.{Membership}
 use Rattle.vi_bytes.specs.declared.region.Membership.TheVariants.{Unattached, Member}
 use Rattle.vi_history.specs.Device.{Dev, Endpoint, Domain, endpoint_of, domain_of}
-use Rattle.vi_history.specs.Requests.{Silent, Malformed, Asks}
+use Rattle.vi_history.specs.declared.reading.Reading.TheVariants.{Silent, Malformed, Asks}
 use Rattle.vi_history.specs.Statuses.{are_multiples, any_mapping_meets, status, map_into}
 use Rattle.vi_history.specs.Effects.{moved, is_inhabited, inhabited, with_domain, with_mappings, endpoint_is_in, attached, effect, commit}
 use Rattle.vi_history.specs.declared.status.TheConstants.{OK}
 use Rattle.vi_history.specs.declared.request.Request.{Request}
 use Rattle.vi_history.specs.declared.request.Request.TheVariants.{Attach, Detach, Map, Unmap, Probe}
-use Rattle.vi_model.specs.Tasks.{Task, Reads, Sets, task_commit}
+use Rattle.vi_model.specs.Tasks.{task_commit}
+use Rattle.vi_model.specs.declared.task.Task.{Task}
+use Rattle.vi_model.specs.declared.task.Task.TheVariants.{Reads, Sets}
 use Rattle.vi_model.specs.Whole.{IsWholeMapping, IsWholeEndpoint, IsWholeDomain, HaveOwnIds, IsWholeDev}
 use Rattle.vi_model.proofs.Finds.{find_domain}
 use Rattle.vi_model.proofs.Commits.{mapped_into}

@@ -5,9 +5,9 @@ use Rattle.vi_history.specs.Device.{Dev}
 use Rattle.vi_history.specs.Replies.{Answer}
 use Rattle.vi_history.specs.declared.outcome.Shown.{Shown}
 use Rattle.vi_history.specs.declared.entry.Entry.{Entry}
-use Rattle.vi_model.specs.Tasks.{Task}
+use Rattle.vi_model.specs.declared.task.Task.{Task}
 use Rattle.vi_model.specs.Lanes.{Down, Miss, Lanes}
-use Rattle.vi_model.specs.Grants.{Grant}
+use Rattle.vi_grants.specs.declared.row.Grant.{Grant}
 use Rattle.vi_model.specs.Removals.{Removal}
 
 -- there are 8 drivers, some without lines

@@ -3,11 +3,8 @@ use Rattle.std.specs.Prelude.{◌==◌, ℕ, ◌+◌, ◌-◌, Bool, not, if◌t
 use Rattle.std.specs.List.{list_any, range_with_len}
 use Rattle.vi_bytes.specs.declared.span.Span.{Span}
 use Rattle.vi_bytes.specs.declared.lease.Lease.{Lease}
+use Rattle.vi_grants.specs.declared.row.Grant.{Grant}
 use Rattle.vi_model.specs.Tasks.{reaches}
-
-pub record Grant : Type 0 where
-  pub asked : ℕ
-  pub lease : Lease
 
 -- the lease of one page of a lease
 abbrev pub piece : Lease → ℕ → Lease

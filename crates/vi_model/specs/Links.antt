@@ -8,7 +8,8 @@ use Rattle.vi_history.specs.Device.{Dev}
 use Rattle.vi_history.specs.Translation.{lease}
 use Rattle.vi_model.specs.Tasks.{closes}
 use Rattle.vi_model.specs.Lanes.{Down, Update, Invalidate, sent_reaches}
-use Rattle.vi_model.specs.Grants.{Grant, piece, touches, lease_under}
+use Rattle.vi_model.specs.Grants.{piece, touches, lease_under}
+use Rattle.vi_grants.specs.declared.row.Grant.{Grant}
 use Rattle.vi_model.specs.Removals.{Removal, waits_for, awaited_reaches}
 
 -- no page has two grants

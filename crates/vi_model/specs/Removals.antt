@@ -3,8 +3,10 @@ use Rattle.std.specs.Prelude.{ℕ, Bool, false, not, ◌&&◌, ◌||◌, if◌th
 use Rattle.std.specs.List.{list_any, list_all}
 use Rattle.vi_bytes.specs.declared.span.Span.{Span}
 use Rattle.vi_history.specs.Device.{Dev}
-use Rattle.vi_model.specs.Tasks.{Task, closes, reach_of, reaches}
-use Rattle.vi_model.specs.Grants.{Grant, some_page, spared}
+use Rattle.vi_model.specs.Tasks.{closes, reach_of, reaches}
+use Rattle.vi_model.specs.declared.task.Task.{Task}
+use Rattle.vi_model.specs.Grants.{some_page, spared}
+use Rattle.vi_grants.specs.declared.row.Grant.{Grant}
 
 -- a removal that was begun: its driver's line, what that asks for, and for each place whether its back end is waited for
 pub record Removal : Type 0 where

@@ -3,7 +3,8 @@ use Rattle.std.specs.Prelude.{◌≡◌, ◌==◌, ℕ, ◌+◌, ◌≤◌, Bool
 use Rattle.std.specs.List.{AllByRecursion, list_any, range_with_len}
 use Rattle.vi_bytes.specs.Parts.{part_count, nth_part}
 use Rattle.vi_history.specs.Device.{Domain}
-use Rattle.vi_history.specs.Requests.{Reading, Silent, Malformed, Asks}
+use Rattle.vi_history.specs.declared.reading.Reading.{Reading}
+use Rattle.vi_history.specs.declared.reading.Reading.TheVariants.{Silent, Malformed, Asks}
 use Rattle.vi_history.specs.declared.call.Caller.{Caller}
 use Rattle.vi_history.specs.declared.call.Caller.TheVariants.{Driver, Back}
 use Rattle.vi_history.specs.declared.request.Request.{Request}
@@ -13,8 +14,10 @@ use Rattle.vi_script.specs.declared.job.Job.TheVariants as job
 use Rattle.vi_script.specs.declared.line.Line.{Line}
 use Rattle.vi_script.specs.Value.{ScriptValue}
 use Rattle.vi_script.specs.Calls.{lines_of, driver_call, parts_of}
-use Rattle.vi_model.specs.Tasks.{Task, Reads, Sets, task_in}
-use Rattle.vi_model.specs.Grants.{Grant}
+use Rattle.vi_model.specs.Tasks.{task_in}
+use Rattle.vi_model.specs.declared.task.Task.{Task}
+use Rattle.vi_model.specs.declared.task.Task.TheVariants.{Reads, Sets}
+use Rattle.vi_grants.specs.declared.row.Grant.{Grant}
 use Rattle.vi_model.specs.Places.{back_at}
 use Rattle.vi_model.specs.Serves.{page_of}
 

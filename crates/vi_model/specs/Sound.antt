@@ -12,7 +12,7 @@ use Rattle.vi_script.specs.Value.{ScriptValue}
 use Rattle.vi_script.specs.Legal.{AreCalls}
 use Rattle.vi_script.specs.Order.{IsOrderedSoFar}
 use Rattle.vi_model.specs.Lanes.{Miss, Lanes}
-use Rattle.vi_model.specs.Grants.{Grant}
+use Rattle.vi_grants.specs.declared.row.Grant.{Grant}
 use Rattle.vi_model.specs.Removals.{Removal}
 use Rattle.vi_model.specs.Control.{Link, Events, Control, driver_count, port_of, link_of}
 use Rattle.vi_model.specs.Places.{place_count, id_at}

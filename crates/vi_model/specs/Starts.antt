@@ -8,7 +8,9 @@ use Rattle.vi_history.specs.declared.call.Caller.{Caller}
 use Rattle.vi_history.specs.declared.call.Caller.TheVariants.{Driver}
 use Rattle.vi_history.specs.declared.entry.Entry.{Entry}
 use Rattle.vi_script.specs.Value.{ScriptValue}
-use Rattle.vi_model.specs.Tasks.{Task, Reads, Sets, task_answer, task_commit, removes, reach_of}
+use Rattle.vi_model.specs.Tasks.{task_answer, task_commit, removes, reach_of}
+use Rattle.vi_model.specs.declared.task.Task.{Task}
+use Rattle.vi_model.specs.declared.task.Task.TheVariants.{Reads, Sets}
 use Rattle.vi_model.specs.Lanes.{Down, Invalidate, Lanes}
 use Rattle.vi_model.specs.Removals.{Removal, waits_for, must_wait, without_first}
 use Rattle.vi_model.specs.Control.{Queued, Setting, Port, Control, Started, Made, no_port, no_lanes}

@@ -4,7 +4,8 @@ use Rattle.std.specs.List.{AllByRecursion}
 use Rattle.vi_bytes.specs.declared.lease.Lease.{Lease}
 use Rattle.vi_history.specs.Device.{Dev}
 use Rattle.vi_script.specs.Value.{ScriptValue}
-use Rattle.vi_model.specs.Tasks.{Task, closes}
+use Rattle.vi_model.specs.Tasks.{closes}
+use Rattle.vi_model.specs.declared.task.Task.{Task}
 use Rattle.vi_model.specs.Lanes.{Down, Update, Invalidate}
 use Rattle.vi_model.specs.Grants.{some_page}
 use Rattle.vi_model.specs.Removals.{Removal, first_ready}

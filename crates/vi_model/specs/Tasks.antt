@@ -1,12 +1,14 @@
 -- What a driver asks the device for: what its request's bytes come to, or a setting of the bypass field. And which
 -- translations it takes away.
-use Rattle.std.specs.Prelude.{◌==◌, ℕ, Bool, true, false, not, ◌&&◌, Option, Some, None}
+use Rattle.std.specs.Prelude.{◌==◌, ℕ, ◌-◌, ◌^◌, Bool, true, false, not, ◌&&◌, if◌then◌else◌, Option, Some, None}
 use Rattle.vi_bytes.specs.Spans.{meets, page_span}
 use Rattle.vi_bytes.specs.declared.span.Span.{Span}
 use Rattle.vi_bytes.specs.declared.region.Membership.{Membership}
 use Rattle.vi_bytes.specs.declared.region.Membership.TheVariants.{Unattached, Member}
 use Rattle.vi_history.specs.Device.{Dev, Endpoint, endpoint_of}
-use Rattle.vi_history.specs.Requests.{Reading, Silent, Malformed, Asks, reading}
+use Rattle.vi_history.specs.Requests.{reading}
+use Rattle.vi_history.specs.declared.reading.Reading.{Reading}
+use Rattle.vi_history.specs.declared.reading.Reading.TheVariants.{Silent, Malformed, Asks}
 use Rattle.vi_history.specs.Statuses.{status}
 use Rattle.vi_history.specs.Effects.{endpoint_is_in, with_bypass}
 use Rattle.vi_history.specs.Replies.{Answer, set_answer, reading_answer, reading_commit}
@@ -18,11 +20,8 @@ use Rattle.vi_history.specs.declared.call.Call.TheVariants as call
 use Rattle.vi_history.specs.declared.call.Caller.TheVariants.{Driver}
 use Rattle.vi_script.specs.Value.{ScriptValue}
 use Rattle.vi_script.specs.Calls.{call_of}
-
--- the bytes of a request come to this, or the bypass field is set to this (Virtio 1.2, 5.13.4)
-pub data Task : Type 0 where
-  Reads : (reading : Reading) → Task
-  Sets : (on : Bool) → Task
+use Rattle.vi_model.specs.declared.task.Task.{Task}
+use Rattle.vi_model.specs.declared.task.Task.TheVariants.{Reads, Sets}
 
 -- what a call asks for; an access asks for nothing
 abbrev pub task_of : Call → Option Task
@@ -96,12 +95,16 @@ unfoldable pub closes : Dev → Task → ℕ → ℕ → Bool
 closes dev (Reads r) endpoint page = reading_closes dev r endpoint page
 closes dev (Sets on) endpoint page = is_unattached (endpoint_of dev endpoint) && not on
 
--- the addresses that a removal tells back ends to forget: the range of an UNMAP, and else all, which is None
+-- the addresses of a range, None where it is all
+abbrev pub reach_between : ℕ → ℕ → Option Span
+reach_between first last = if (first == 0) && (last == 2 ^ 64 - 1) then None else Some (record { first = first; last = last })
+
+-- the addresses that a removal tells back ends to forget: the range of an UNMAP, and else all
 abbrev pub request_reach : Request → Option Span
 request_reach (Attach domain endpoint flags) = None
 request_reach (Detach domain endpoint) = None
 request_reach (Map domain first last target flags) = None
-request_reach (Unmap domain first last) = Some (record { first = first; last = last })
+request_reach (Unmap domain first last) = reach_between first last
 request_reach (Probe endpoint) = None
 
 abbrev pub reading_reach : Reading → Option Span

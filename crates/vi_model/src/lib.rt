@@ -9,6 +9,10 @@ ghost use Rattle.vi_model.specs.Laws.{AccessesKeepSound, ActorsAccess, ActorsGoO
 ghost use Rattle.vi_model.specs.Rounds.{FinishedHasFinished, RoundsFinish};
 ghost use Rattle.vi_model.specs.Taken.{FinishedIsTaken, StartedIsTaken};
 
+mod task;
+
+pub use task::Task;
+
 /// The world of a playable script in which nothing has happened is sound.
 pub fn opening_is_sound()
     ensures { OpeningIsSound }

@@ -3,7 +3,9 @@ use Rattle.std.proofs.Common.{◌≡◌, ℕ, zero, suc, ◌+◌, ◌-◌, ◌<�
 use Rattle.std.proofs.lemmas.Option.{slice_get_within}
 use Rattle.vi_bytes.specs.declared.lease.Need.TheVariants as need
 use Rattle.vi_history.specs.Device.{Dev, One, domain_of}
-use Rattle.vi_history.specs.Requests.{Reading, Silent, Malformed, Asks, reading}
+use Rattle.vi_history.specs.Requests.{reading}
+use Rattle.vi_history.specs.declared.reading.Reading.{Reading}
+use Rattle.vi_history.specs.declared.reading.Reading.TheVariants.{Silent, Malformed, Asks}
 use Rattle.vi_history.specs.Statuses.{status}
 use Rattle.vi_history.specs.Effects.{commit}
 use Rattle.vi_history.specs.Translation.{Nowhere, found_for, look}

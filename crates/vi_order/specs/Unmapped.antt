@@ -2,7 +2,9 @@
 -- was unmapped faults.
 use Rattle.std.specs.Prelude.{◌≡◌, ◌<◌, ◌≤◌, ℕ, false, List, take, Option, Some, None, slice_get, IsTrue}
 use Rattle.vi_history.specs.Device.{Dev, Endpoint, Domain, endpoint_of, domain_of}
-use Rattle.vi_history.specs.Requests.{Reading, Silent, Malformed, Asks, reading}
+use Rattle.vi_history.specs.Requests.{reading}
+use Rattle.vi_history.specs.declared.reading.Reading.{Reading}
+use Rattle.vi_history.specs.declared.reading.Reading.TheVariants.{Silent, Malformed, Asks}
 use Rattle.vi_history.specs.Start.{start}
 use Rattle.vi_history.specs.Histories.{after}
 use Rattle.vi_history.specs.Kinds.{is_fault}

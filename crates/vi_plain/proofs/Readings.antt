@@ -2,7 +2,9 @@
 use Rattle.std.proofs.Common.{◌≡◌, ℕ, ◌<◌, Bool, true, false, cond, nat_lt, List, refl}
 use Rattle.std.proofs.lemmas.Bool.{lt-ltb}
 use Rattle.vi_bytes.specs.Fields.{byte_at}
-use Rattle.vi_history.specs.Requests.{Reading, Silent, reading, writable_size}
+use Rattle.vi_history.specs.Requests.{reading, writable_size}
+use Rattle.vi_history.specs.declared.reading.Reading.{Reading}
+use Rattle.vi_history.specs.declared.reading.Reading.TheVariants.{Silent}
 
 silent : (a b short : Bool) (rest : Reading) → short ≡ true → cond a Silent (cond b Silent (cond short Silent rest)) ≡ Silent
 silent true b short rest e = refl

@@ -4,7 +4,9 @@ use Rattle.std.specs.List.{All, list_all}
 use Rattle.std.proofs.lemmas.Bool.{lt-ltb, le-ltb, eq-eqb, ne_eqb, eqb-true}
 use Rattle.std.proofs.lemmas.Bool.Decides.{nat_tests}
 use Rattle.vi_bytes.specs.Fields.{byte_at}
-use Rattle.vi_history.specs.Requests.{Reading, Silent, Malformed, Asks, is_known, readable_size, writable_size, reserved_bytes, request_in, request_bytes, reading}
+use Rattle.vi_history.specs.Requests.{is_known, readable_size, writable_size, reserved_bytes, request_in, request_bytes, reading}
+use Rattle.vi_history.specs.declared.reading.Reading.{Reading}
+use Rattle.vi_history.specs.declared.reading.Reading.TheVariants.{Silent, Malformed, Asks}
 use Rattle.vi_history.specs.declared.request.Request.{Request}
 use Rattle.vi_req.specs.declared.refusal.ReqFault.{ReqFault}
 use Rattle.vi_req.specs.declared.refusal.ReqFault.TheVariants.{NoHead, UnknownType, Size, Reserved}

@@ -1,7 +1,9 @@
 -- What is wrong with bytes that are no request (Virtio 1.2, 5.13.6): the first of four things, in this order.
 use Rattle.std.specs.Prelude.{◌≡◌, ◌≢◌, ◌==◌, ◌≤◌, ◌<◌, ◌⊎◌, ℕ, List, length, Any, Result, Ok, Err}
 use Rattle.vi_bytes.specs.Fields.{byte_at}
-use Rattle.vi_history.specs.Requests.{Reading, Silent, Malformed, Asks, readable_size, reserved_bytes}
+use Rattle.vi_history.specs.Requests.{readable_size, reserved_bytes}
+use Rattle.vi_history.specs.declared.reading.Reading.{Reading}
+use Rattle.vi_history.specs.declared.reading.Reading.TheVariants.{Silent, Malformed, Asks}
 use Rattle.vi_history.specs.declared.request.TheConstants.{ATTACH, PROBE}
 use Rattle.vi_history.specs.declared.request.Request.{Request}
 use Rattle.vi_req.specs.declared.refusal.ReqFault.{ReqFault}

@@ -14,7 +14,9 @@ use Rattle.vi_history.specs.declared.call.Caller.{Caller}
 use Rattle.vi_history.specs.Kinds.{is_fault}
 use Rattle.vi_history.specs.Records.{record_of}
 use Rattle.vi_history.specs.Replies.{Answer, reply, request_answer, reading_answer, read_at, write_at}
-use Rattle.vi_history.specs.Requests.{Reading, Silent, Malformed, Asks, reading}
+use Rattle.vi_history.specs.Requests.{reading}
+use Rattle.vi_history.specs.declared.reading.Reading.{Reading}
+use Rattle.vi_history.specs.declared.reading.Reading.TheVariants.{Silent, Malformed, Asks}
 use Rattle.vi_history.specs.Translation.{Look, Leads, Nowhere, look, look_of, look_by, look_in_domain, look_in_mapping, found_for, permits, is_in_memory, translate}
 use Rattle.vi_history.specs.Outcomes.{HasPart, HasBytes, IsEntry, NamesEntry}
 use Rattle.vi_history.specs.declared.call.Call.{Call}
