@@ -49,7 +49,7 @@ adds_at before (suc i) (l ∷ ls) m d lt adds =
     omega (arith, r)
 
 -- what stands where no line is
-no_line : Line
+pub no_line : Line
 no_line = record { caller = Driver 0; job = job.Bypass true; add = false; awaits = [] }
 
 get_or_same : {A : Type 0} (xs : List A) (i : ℕ) (d : A) → i < length xs → get_or xs i (get_or xs i d) ≡ get_or xs i d
@@ -80,7 +80,7 @@ one_batch s j a b d low le within same =
 
 -- ---- how many lines are open
 
-open_sum : (n : ℕ) (xs : List ℕ) → ((line : ℕ) → 0 < count_line line xs → line < n) → sum_to n (λ line. count_line line xs) ≡ length xs
+pub open_sum : (n : ℕ) (xs : List ℕ) → ((line : ℕ) → 0 < count_line line xs → line < n) → sum_to n (λ line. count_line line xs) ≡ length xs
 open_sum n [] h = sum_zero n
 open_sum n (x ∷ xs) h =
     let m = sum_more n (λ line. one_if (x == line)) (λ line. count_line line xs) in
@@ -123,7 +123,7 @@ highest (x ∷ xs) = go (highest xs)
             low b i (inl q) = omega (arith, q)
             low b i (inr ne) = let m = r.2 b (rest b ne i) in omega (arith, m, g)
 
-zero_or : (n : ℕ) → (0 < n → ⊥) → n ≡ 0
+pub zero_or : (n : ℕ) → (0 < n → ⊥) → n ≡ 0
 zero_or n f = by (cases_eq n 0)
   where
     by : (n ≡ 0) ⊎ (n ≡ 0 → ⊥) → n ≡ 0
@@ -182,7 +182,7 @@ removals_sum s next (r ∷ rs) ok h =
         omega (arith, m, same, z, u)
 
 -- the request queue and the open removals together
-waiting_sum : (s : ScriptValue) (next : ℕ → ℕ) (qs : List Queued) (rs : List Removal) → AreQueued s qs → AllByRecursion (IsRemoval s (place_count s)) rs
+pub waiting_sum : (s : ScriptValue) (next : ℕ → ℕ) (qs : List Queued) (rs : List Removal) → AreQueued s qs → AllByRecursion (IsRemoval s (place_count s)) rs
     → ((j line : ℕ) → j < driver_count → 0 < count_queued j line qs + count_removals j line rs → line < next j)
     → sum_to driver_count (λ j. sum_to (next j) (λ line. count_queued j line qs + count_removals j line rs)) ≡ length qs + length rs
 waiting_sum s next [] rs q ok h =
@@ -219,7 +219,7 @@ waiting_sum s next (x ∷ qs) rs q ok h =
             omega (arith, split, m, same, z, u)
 
 -- the sum over drivers that a script is held to
-drivers_sum : (f : ℕ → ℕ) → sum_by f (range_with_len 0 8) ≡ sum_to 8 f
+pub drivers_sum : (f : ℕ → ℕ) → sum_by f (range_with_len 0 8) ≡ sum_to 8 f
 drivers_sum f = omega arith
 
 -- the queued requests and the open removals are no more than the calls that may be open

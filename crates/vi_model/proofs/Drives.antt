@@ -102,7 +102,7 @@ record Submits (s : ScriptValue) (w : World) (j : ℕ) (l : Line) (parcel : Parc
   posted : all_posted s w.control l.awaits ≡ true
   parcel_is : parcel_of l.job ≡ Some parcel
 
-line_below : (s : ScriptValue) (j line : ℕ) (l : Line) → line_of s (Driver j) line ≡ Some l → line ≤ length (lines_of s (Driver j))
+pub line_below : (s : ScriptValue) (j line : ℕ) (l : Line) → line_of s (Driver j) line ≡ Some l → line ≤ length (lines_of s (Driver j))
 line_below s j zero l h = absurd cc
 line_below s j (suc before) l h = let lt = slice_get_within (lines_of s (Driver j)) before l h in omega (arith, lt)
 
@@ -203,19 +203,19 @@ submit_queue s w j l read write play ok sub = record {
     stand = next_open (stand_of w j)
 
 -- a setting that is left ends its batch, so no later line of its batch is submitted
-no_setting : (s : ScriptValue) (w : World) (j : ℕ) (l : Line) (parcel : Parcel) → IsPlayable s → SoundParts s w → Submits s w j l parcel → (port_of w.control j).setting ≡ None
-no_setting s w j l parcel play ok sub = go (port_of w.control j).setting refl (ok.settings j sub.below)
+pub no_setting : (s : ScriptValue) (w : World) (j : ℕ) → IsPlayable s → SoundParts s w → j < driver_count → is_one_batch s j (stand_of w j) ≡ true → (port_of w.control j).setting ≡ None
+no_setting s w j play ok below batch = go (port_of w.control j).setting refl (ok.settings j below)
   where
     go : (o : Option Setting) → (port_of w.control j).setting ≡ o → SettingIsCall s j o → (port_of w.control j).setting ≡ None
     go None e c = e
     go (Some q) e c =
-        let mine = ok.drivers j sub.below in
+        let mine = ok.drivers j below in
         let one = mine.one q.line in
         let here : count_setting q.line (port_of w.control j).setting ≡ 1 = ap (count_setting q.line) e ∙ ap one_if (eq-eqb q.line q.line refl) in
         let open_here : 0 < count_line q.line (stand_of w j).open_lines = omega (arith, one, here) in
         let before = mine.below q.line open_here in
         let n = (stand_of w j).submitted + 1 in
-        let same = batch_all s (Driver j) (batch_of s (Driver j) n) q.line (stand_of w j).open_lines sub.batch open_here in
+        let same = batch_all s (Driver j) (batch_of s (Driver j) n) q.line (stand_of w j).open_lines batch open_here in
         let ends = setting_ends s j q.line q.on play.valid c.1 in
         let lines = mine.lines in
         let less = batch_ends s (Driver j) q.line n ends.0 before.0 (omega (arith, before.1)) (omega (arith, before.1, lines)) (line_get s j q.line ends.0 ends.1) ends.2 in
@@ -258,7 +258,7 @@ submit_setting s w j l on none play ok sub = record {
 submit_sound : (s : ScriptValue) (w : World) (j : ℕ) (l : Line) (parcel : Parcel) → IsPlayable s → SoundParts s w → Submits s w j l parcel → SoundParts s (after_driver w j (Some (submit w.control j (stand_of w j) parcel)))
 unfolding submit
 submit_sound s w j l (Chain read write) play ok sub = submit_queue s w j l read write play ok sub
-submit_sound s w j l (Switch on) play ok sub = submit_setting s w j l on (no_setting s w j l (Switch on) play ok sub) play ok sub
+submit_sound s w j l (Switch on) play ok sub = submit_setting s w j l on (no_setting s w j play ok sub.below sub.batch) play ok sub
 
 pub driver_sound : (s : ScriptValue) (w : World) (j : ℕ) → IsPlayable s → SoundParts s w → j < driver_count → SoundParts s (after_driver w j (driver_turn s w.control j (stand_of w j)))
 unfolding driver_turn

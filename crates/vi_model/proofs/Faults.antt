@@ -1,7 +1,7 @@
 -- There is room for the record of each fault, and for each grant.
 use Rattle.std.proofs.Common.{◌≡◌, ◌==◌, ℕ, zero, suc, ◌+◌, ◌≤◌, ◌<◌, Bool, true, false, cond, List, [], ◌∷◌, ◌++◌, length, map, filter, count_by, Option, Some, None, IsSome, is_some, refl, arith, ◌∙◌, ap, sym, subst, ◌⊎◌, inl, inr, append_assoc, append-nil}
 use Rattle.std.proofs.lemmas.Bool.{cases_eq, eq-eqb, eqb-true, false≢true, or_left}
-use Rattle.std.proofs.lemmas.List.Sums.{sum_by-cons}
+use Rattle.std.proofs.lemmas.List.Sums.{count_by-le-length, sum_by-cons}
 use Rattle.vi_history.specs.Device.{One}
 use Rattle.vi_history.specs.Kinds.{is_fault}
 use Rattle.vi_history.specs.Replies.{reply, next}
@@ -199,10 +199,10 @@ record_count one cs hs legal = from 1 one cs hs legal
         length_both [] ys = omega arith
         length_both (x ∷ xs) ys = let r = length_both xs ys in omega (arith, r)
 
--- a fault that is served finds room for its record
-pub record_room : (s : ScriptValue) (w : World) (k : ℕ) (x : Link) (m : Miss) → IsValid s → SoundParts s w → Takes s w k x m → 1 ≤ w.control.events.room
+-- where a miss is served, fewer records than the script has transfers are delivered or dropped
+pub faults_few : (s : ScriptValue) (w : World) (k : ℕ) (x : Link) (m : Miss) → IsValid s → SoundParts s w → Takes s w k x m → length w.control.events.shown + w.control.events.dropped < all_transfers s
 unfolding all_transfers
-record_room s w k x m valid ok t =
+faults_few s w k x m valid ok t =
     let few = faults_from s [] w.history _ ok.told.calls valid ok.told.ordered ok.told.named ok.told.legal in
     let count = ok.told.shown.count in
     let size = record_count _ ok.told.calls w.history ok.told.legal in
@@ -214,8 +214,16 @@ record_room s w k x m valid ok t =
     let first = sum_same (place_count s) (λ k. (due_place s (back_at s k) []).line) (λ k. 1) (λ i l. refl) in
     let more = sum_more (place_count s) (λ k. length (lines_of s (back_at s k))) (λ k. 1) in
     let all = backs_sum s s.lines valid in
-    let room = ok.records in
-    omega (arith, few, count, size, less, first, more, all, room)
+    omega (arith, few, count, size, less, first, more, all)
+
+-- a script has no more transfers than lines
+pub transfers_few : (s : ScriptValue) → all_transfers s ≤ length s.lines
+unfolding all_transfers
+transfers_few s = count_by-le-length (λ l. is_back l.caller) s.lines
+
+-- a fault that is served finds room for its record
+pub record_room : (s : ScriptValue) (w : World) (k : ℕ) (x : Link) (m : Miss) → IsValid s → SoundParts s w → Takes s w k x m → 1 ≤ w.control.events.room
+record_room s w k x m valid ok t = let few = faults_few s w k x m valid ok t in let room = ok.records in omega (arith, few, room)
 
 -- a miss that is served finds room for a grant under a new page
 pub grant_room : (s : ScriptValue) (w : World) (k : ℕ) (x : Link) (m : Miss) → SoundParts s w → Takes s w k x m → lease_under (page_of m.iova) (link_of w.control k).grants ≡ None → 1 ≤ (link_of w.control k).spare

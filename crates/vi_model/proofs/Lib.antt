@@ -59,3 +59,4 @@ pub mod Progress
 pub mod Rounds
 pub mod Finishes
 pub mod Tested
+mod OpenCalls

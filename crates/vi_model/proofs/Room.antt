@@ -9,11 +9,13 @@ use Rattle.vi_model.specs.Starts.{queued_call, setting_call}
 use Rattle.vi_model.specs.Worlds.{World, seat_of}
 use Rattle.vi_model.specs.Asking.{one_if}
 use Rattle.vi_model.specs.Sound.{SoundParts, IsSound}
-use Rattle.vi_model.specs.Bounds.{HistoryFits, CallsFit, HasFewFrames, LanesFit, HasStartRoom, RequestsFit, SettingsFit, HasMissRoom, MissesFit, AsksFit, AcksFit}
+use Rattle.vi_model.specs.Bounds.{HistoryFits, OpenCallsFit, SubmitsFit, AnswersOnce, CallsFit, HasFewFrames, LanesFit, HasStartRoom, RequestsFit, SettingsFit, HasMissRoom, MissesFit, AsksFit, AcksFit}
 use Rattle.vi_model.proofs.Counts.{history_few}
 use Rattle.vi_model.proofs.Bounds.{waiting_few, removal_room, lanes_few, acks_few}
 use Rattle.vi_model.proofs.Maps.{map_room}
-use Rattle.vi_model.proofs.Faults.{record_room, grant_room}
+use Rattle.vi_model.proofs.Drives.{no_setting}
+use Rattle.vi_model.proofs.Faults.{faults_few, transfers_few, record_room, grant_room}
+use Rattle.vi_model.proofs.OpenCalls.{open_calls_few, submits_few}
 use Rattle.vi_model.proofs.Asks.{wishes_ask}
 use Rattle.vi_model.proofs.Holds.{hold_queue, hold_setting, less_queue, less_setting}
 use Rattle.vi_model.proofs.Serves.{Takes}
@@ -84,6 +86,7 @@ miss_room s w k x m valid ok t =
       update = omega (arith, a, b, size);
       reply = none;
       shown = record_room s w k x m valid ok t;
+      faults = let few = faults_few s w k x m valid ok t in let all = transfers_few s in let most = valid.few in omega (arith, few, all, most);
     }
 
 pub misses_fit : MissesFit
@@ -110,3 +113,15 @@ acks_fit s w k reach rest play ok lt e =
     let a = acks_few s w k ok lt in
     let b = waiting_few s w play.valid ok in
     omega (arith, size, a, b)
+
+pub open_calls_fit : OpenCallsFit
+unfolding IsSound
+open_calls_fit s w play ok = open_calls_few s w play.valid ok
+
+pub submits_fit : SubmitsFit
+unfolding IsSound
+submits_fit s w j l play ok lt next batch = record { call = submits_few s w j l play.valid ok lt next batch; setting = no_setting s w j play ok lt batch }
+
+pub answers_once : AnswersOnce
+unfolding IsSound
+answers_once s w j line ok lt = let d = ok.drivers j lt in let one = d.one line in let once = d.once line in omega (arith, one, once)

@@ -1,15 +1,21 @@
 -- How much there is at most, and that there is room for what a turn adds.
-use Rattle.std.specs.Prelude.{◌≡◌, ◌⊎◌, ◌^◌, ◌+◌, ◌<◌, ◌≤◌, ℕ, true, List, [], ◌∷◌, length, Option, Some, None}
+use Rattle.std.specs.Prelude.{◌≡◌, ◌⊎◌, ◌^◌, ◌+◌, ◌<◌, ◌≤◌, ℕ, true, List, [], ◌∷◌, length, sum_by, Option, Some, None}
 use Rattle.vi_bytes.specs.declared.span.Span.{Span}
+use Rattle.vi_history.specs.declared.call.Caller.TheVariants.{Driver}
+use Rattle.vi_script.specs.declared.line.Line.{Line}
 use Rattle.vi_script.specs.Value.{ScriptValue}
+use Rattle.vi_script.specs.Calls.{line_of}
 use Rattle.vi_model.specs.Lanes.{Down, Invalidate, Miss}
 use Rattle.vi_model.specs.Grants.{lease_under}
 use Rattle.vi_model.specs.Control.{Queued, Setting, Port, Link, Control, Started, driver_count, port_of, link_of}
 use Rattle.vi_model.specs.Places.{place_count}
 use Rattle.vi_model.specs.Starts.{queued_call, setting_call}
 use Rattle.vi_model.specs.Serves.{page_of}
+use Rattle.vi_model.specs.Drivers.{Stand, is_one_batch}
 use Rattle.vi_model.specs.Backs.{Asks, wish}
-use Rattle.vi_model.specs.Worlds.{World, seat_of}
+use Rattle.vi_model.specs.Asking.{count_option}
+use Rattle.vi_model.specs.Held.{count_answers}
+use Rattle.vi_model.specs.Worlds.{World, stand_of, seat_of}
 use Rattle.vi_model.specs.Rooms.{is_map, mappings_in}
 use Rattle.vi_model.specs.Playable.{IsPlayable}
 use Rattle.vi_model.specs.Sound.{IsSound}
@@ -21,6 +27,28 @@ HistoryFits = (s : ScriptValue) (w : World) → IsPlayable s → IsSound s w →
 -- the queued requests and the open removals are at most 8 together
 abbrev pub CallsFit : Type 0
 CallsFit = (s : ScriptValue) (w : World) → IsPlayable s → IsSound s w → length w.control.queue + length w.control.removals ≤ 8
+
+-- how many calls of drivers are open: queued, waiting in a removal, left as a setting, and answered
+abbrev pub open_calls : Control → ℕ
+open_calls c = length c.queue + length c.removals + sum_by (λ p. count_option p.setting + length p.answered) c.ports
+
+abbrev pub OpenCallsFit : Type 0
+OpenCallsFit = (s : ScriptValue) (w : World) → IsPlayable s → IsSound s w → open_calls w.control ≤ 8
+
+-- There is room for a driver's next line: for a call more, and for its setting.
+pub record HasSubmitRoom (c : Control) (driver : ℕ) : Type 0 where
+  pub call : open_calls c < 8
+  pub setting : (let p : Port = port_of c driver in p.setting) ≡ None
+
+-- a driver whose open lines are all of its next line's batch finds it
+abbrev pub SubmitsFit : Type 0
+SubmitsFit = (s : ScriptValue) (w : World) (driver : ℕ) (l : Line) → IsPlayable s → IsSound s w → driver < driver_count
+    → line_of s (Driver driver) ((let d : Stand = stand_of w driver in d.submitted) + 1) ≡ Some l → is_one_batch s driver (stand_of w driver) ≡ true
+    → HasSubmitRoom w.control driver
+
+-- no line of a driver is answered twice
+abbrev pub AnswersOnce : Type 0
+AnswersOnce = (s : ScriptValue) (w : World) (driver line : ℕ) → IsSound s w → driver < driver_count → count_answers line (let p : Port = port_of w.control driver in p.answered) ≤ 1
 
 -- a back end's lanes have at most 9 frames down and 8 acknowledgements up, and one miss and one reply
 pub record HasFewFrames (x : Link) : Type 0 where
@@ -55,6 +83,7 @@ pub record HasMissRoom (c : Control) (x : Link) (m : Miss) : Type 0 where
   pub update : length x.down ≤ 8
   pub reply : x.replies ≡ []
   pub shown : 1 ≤ c.events.room
+  pub faults : length c.events.shown + c.events.dropped < 10000
 
 abbrev pub MissesFit : Type 0
 MissesFit = (s : ScriptValue) (w : World) (place : ℕ) (m : Miss) → IsPlayable s → IsSound s w → place < place_count s → IsThere (link_of w.control place) m

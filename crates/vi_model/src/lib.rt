@@ -3,7 +3,7 @@
 #![tactic(auto)]
 
 ghost use Rattle.vi_model.specs.Bound.{MovesLower};
-ghost use Rattle.vi_model.specs.Bounds.{AcksFit, AsksFit, CallsFit, HistoryFits, LanesFit, MissesFit, RequestsFit, SettingsFit};
+ghost use Rattle.vi_model.specs.Bounds.{AcksFit, AnswersOnce, AsksFit, CallsFit, HistoryFits, LanesFit, MissesFit, OpenCallsFit, RequestsFit, SettingsFit, SubmitsFit};
 ghost use Rattle.vi_model.specs.Delivered.{RecordsAreShownWell};
 ghost use Rattle.vi_model.specs.Laws.{AccessesKeepSound, ActorsAccess, ActorsGoOn, ControlKeepsSound, EveryRunIsLegal, FewerLeasesKeepSound, FinishedIsOrdered, OnlyMovedChanges, OpeningIsSound, OthersStay, PlacesHaveIds, SoundIsLegal, TurnsKeepSound};
 ghost use Rattle.vi_model.specs.Rounds.{FinishedHasFinished, RoundsFinish};
@@ -58,6 +58,21 @@ pub fn others_stay()
 /// A sound world's history has fewer than 2^64 entries.
 pub fn history_fits()
     ensures { HistoryFits }
+{}
+
+/// In a sound world at most 8 calls of drivers are open: queued, waiting in removals, left as settings and answered.
+pub fn open_calls_fit()
+    ensures { OpenCallsFit }
+{}
+
+/// In a sound world there is room for the next line of a driver whose open lines are all of that line's batch.
+pub fn submits_fit()
+    ensures { SubmitsFit }
+{}
+
+/// In a sound world no line of a driver is answered twice.
+pub fn answers_once()
+    ensures { AnswersOnce }
 {}
 
 /// In a sound world at most 8 requests are queued or wait for a removal.
