@@ -1,5 +1,5 @@
 //! Runs of pages, which one lease may hold together.
-ghost use Rattle.std.specs.Prelude.{◌≡◌, ◌+◌, ◌*◌, ◌/◌, ◌<◌, ◌^◌, length};
+ghost use Rattle.std.specs.Prelude.{◌≡◌, ◌+◌, ◌*◌, ◌/◌, ◌<◌, ◌≤◌, ◌^◌, IfSome, length};
 ghost use Rattle.vi_bytes.specs.declared.span.TheConstants.{PAGE};
 ghost use Rattle.vi_history.specs.Runs.{run, goes_alike, mapping_through, mapping_by, same_mapping};
 ghost use Rattle.vi_device.specs.Ends.{IsLowest, IsHighest};
@@ -18,7 +18,8 @@ impl Device {
     pub fn run(&self, place: u32, page: u64) -> Option<Lease>
         requires place_in { place < length self.now.dev.endpoints }
         requires page { page < 2 ^ 52 }
-        ensures { result ≡ run self.now.dev (id_at self.now.dev place) page }
+        ensures run { result ≡ run self.now.dev (id_at self.now.dev place) page }
+        ensures permission { IfSome result (λ l. (1 ≤ l.perm) × (l.perm ≤ 3)) }
     {
         match self.lease(place, page) {
             None => None,

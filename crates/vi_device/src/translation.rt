@@ -1,5 +1,5 @@
 //! Where an address of an endpoint leads.
-ghost use Rattle.std.specs.Prelude.{◌≡◌, ◌<◌, ◌^◌, Some, length};
+ghost use Rattle.std.specs.Prelude.{◌≡◌, ◌<◌, ◌≤◌, ◌^◌, Some, IfSome, length};
 ghost use Rattle.vi_history.specs.Translation.{translate, lease, look, look_by, look_in_domain, permits, is_in_memory};
 ghost use Rattle.vi_history.specs.Replies.{properties};
 ghost use Rattle.vi_device.specs.Aims.{look_seen, HasFlags};
@@ -40,7 +40,8 @@ impl Device {
     pub fn lease(&self, place: u32, page: u64) -> Option<Lease>
         requires place_in { place < length self.now.dev.endpoints }
         requires page { page < 2 ^ 52 }
-        ensures { result ≡ lease self.now.dev (id_at self.now.dev place) page }
+        ensures lease { result ≡ lease self.now.dev (id_at self.now.dev place) page }
+        ensures permission { IfSome result (λ l. (1 ≤ l.perm) × (l.perm ≤ 3)) }
     {
         match self.look(place, PAGE * page) {
             Aim::Leads(target, flags) => {

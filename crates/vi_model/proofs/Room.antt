@@ -45,7 +45,7 @@ lanes_fit s w place play ok lt = frames_few s w place play.valid ok lt
 lanes_start : (s : ScriptValue) (w : World) (k : ℕ) → SoundParts s w → length w.control.removals < 8 → k < place_count s → length (link_of w.control k).down ≤ 8
 lanes_start s w k ok less lt = let b = (lanes_few s w k ok lt).0 in let c = (lanes_few s w k ok lt).1 in omega (arith, b, c, less)
 
-request_room : (s : ScriptValue) (w : World) (q : Queued) (rest : List Queued) → IsValid s → SoundParts s w → w.control.queue ≡ q ∷ rest → HasStartRoom s w.control (queued_call q)
+request_room : (s : ScriptValue) (w : World) (q : Queued) (rest : List Queued) → IsValid s → SoundParts s w → w.control.queue ≡ q ∷ rest → HasStartRoom (place_count s) w.control (queued_call q)
 request_room s w q rest valid ok e =
     let c : Started = queued_call q in
     let held = hold_queue s w q rest ok e in
@@ -60,7 +60,7 @@ pub requests_fit : RequestsFit
 unfolding IsSound
 requests_fit s w q rest play ok e = request_room s w q rest play.valid ok e
 
-setting_room : (s : ScriptValue) (w : World) (j : ℕ) (x : Setting) → IsValid s → SoundParts s w → j < driver_count → (port_of w.control j).setting ≡ Some x → HasStartRoom s w.control (setting_call j x)
+setting_room : (s : ScriptValue) (w : World) (j : ℕ) (x : Setting) → IsValid s → SoundParts s w → j < driver_count → (port_of w.control j).setting ≡ Some x → HasStartRoom (place_count s) w.control (setting_call j x)
 setting_room s w j x valid ok lt e =
     let c : Started = setting_call j x in
     let held = hold_setting s w j x ok lt e in

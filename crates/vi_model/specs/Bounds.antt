@@ -60,18 +60,19 @@ pub record HasFewFrames (x : Link) : Type 0 where
 abbrev pub LanesFit : Type 0
 LanesFit = (s : ScriptValue) (w : World) (place : ℕ) → IsPlayable s → IsSound s w → place < place_count s → HasFewFrames (link_of w.control place)
 
--- There is room for a call that starts: for its removal and the Invalidates of it, and for its mapping.
-pub record HasStartRoom (s : ScriptValue) (c : Control) (call : Started) : Type 0 where
+-- There is room for a call that starts, with so many back ends: for its removal and the Invalidates of it, and for its
+-- mapping.
+pub record HasStartRoom (places : ℕ) (c : Control) (call : Started) : Type 0 where
   pub removal : length c.removals < 8
-  pub lanes : (place : ℕ) → place < place_count s → (let x : Link = link_of c place in length x.down) ≤ 8
+  pub lanes : (place : ℕ) → place < places → (let x : Link = link_of c place in length x.down) ≤ 8
   pub mapping : is_map (Some call.task) ≡ true → (domain : ℕ) → mappings_in domain c.dev.domains + 1 ≤ c.mappings
 
 abbrev pub RequestsFit : Type 0
-RequestsFit = (s : ScriptValue) (w : World) (q : Queued) (rest : List Queued) → IsPlayable s → IsSound s w → w.control.queue ≡ q ∷ rest → HasStartRoom s w.control (queued_call q)
+RequestsFit = (s : ScriptValue) (w : World) (q : Queued) (rest : List Queued) → IsPlayable s → IsSound s w → w.control.queue ≡ q ∷ rest → HasStartRoom (place_count s) w.control (queued_call q)
 
 abbrev pub SettingsFit : Type 0
 SettingsFit = (s : ScriptValue) (w : World) (driver : ℕ) (x : Setting) → IsPlayable s → IsSound s w → driver < driver_count → (let p : Port = port_of w.control driver in p.setting) ≡ Some x
-    → HasStartRoom s w.control (setting_call driver x)
+    → HasStartRoom (place_count s) w.control (setting_call driver x)
 
 -- a miss is on its way up, or parked
 abbrev pub IsThere : Link → Miss → Type 0
