@@ -302,7 +302,7 @@ waits_length k (r ∷ rs) = go (waits_for k r) (waits_length k rs)
     go true h = omega (arith, h)
     go false h = omega (arith, h)
 
-one_most : (b : Bool) → one_if b ≤ 1
+pub one_most : (b : Bool) → one_if b ≤ 1
 one_most true = omega arith
 one_most false = omega arith
 

@@ -1,14 +1,14 @@
 -- The drivers' open calls together, and that there is room for one more where a driver submits.
-use Rattle.std.proofs.Common.{◌≡◌, ◌==◌, ℕ, zero, suc, ◌+◌, ◌-◌, ◌≤◌, ◌<◌, true, List, [], ◌∷◌, length, get_or, Option, Some, None, refl, arith, ap, subst, sym, ◌∙◌, ◌⊎◌, inl, inr}
+use Rattle.std.proofs.Common.{◌≡◌, ◌==◌, ℕ, zero, suc, ◌+◌, ◌-◌, ◌≤◌, ◌<◌, true, List, [], ◌∷◌, length, get_or, Option, Some, None, refl, arith, ap}
 use Rattle.std.specs.Prelude.{sum_by}
-use Rattle.std.proofs.lemmas.Bool.{cases_eq, eq-eqb}
+use Rattle.std.proofs.lemmas.Bool.{eq-eqb}
 use Rattle.std.proofs.lemmas.List.Sums.{sum_by-cons}
 use Rattle.vi_history.specs.declared.call.Caller.TheVariants.{Driver}
 use Rattle.vi_history.specs.declared.entry.Entry.{Entry}
 use Rattle.vi_script.specs.declared.line.Line.{Line}
 use Rattle.vi_script.specs.Value.{ScriptValue}
 use Rattle.vi_script.specs.Valid.{IsValid}
-use Rattle.vi_script.specs.Calls.{lines_of, line_of}
+use Rattle.vi_script.specs.Calls.{line_of}
 use Rattle.vi_script.specs.Limits.{longest_batch}
 use Rattle.vi_script.specs.Order.{batch_of}
 use Rattle.vi_model.specs.Control.{Setting, Answered, Port, no_port, driver_count, port_of}
@@ -21,7 +21,7 @@ use Rattle.vi_model.specs.Bounds.{open_calls}
 use Rattle.vi_model.proofs.Sums.{sum_to, sum_more, sum_zero, sum_one, sum_le, sum_lt, sum_same, sum_window}
 use Rattle.vi_model.proofs.Batches.{batch_all}
 use Rattle.vi_model.proofs.Drives.{line_below}
-use Rattle.vi_model.proofs.Bounds.{no_line, one_batch, open_few, open_sum, zero_or, waiting_sum, drivers_sum}
+use Rattle.vi_model.proofs.Bounds.{no_line, one_batch, open_few, zero_or, waiting_sum, drivers_sum}
 
 sum_head : (n : ℕ) (f : ℕ → ℕ) → sum_to (suc n) f ≡ f 0 + sum_to n (λ i. f (suc i))
 sum_head zero f = omega arith

@@ -1,5 +1,5 @@
 -- The laws of bounds and of room.
-use Rattle.std.proofs.Common.{◌≡◌, ℕ, suc, ◌<◌, ◌≤◌, List, [], ◌∷◌, length, Some, None, refl, arith, ap, sym, ◌∙◌, inl, inr}
+use Rattle.std.proofs.Common.{◌≡◌, ℕ, suc, ◌<◌, ◌≤◌, List, [], ◌∷◌, length, Option, Some, None, refl, arith, ap, sym, ◌∙◌, inl, inr}
 use Rattle.vi_script.specs.Value.{ScriptValue}
 use Rattle.vi_script.specs.Valid.{IsValid}
 use Rattle.vi_model.specs.Lanes.{Down, Miss, sent_reaches}
@@ -7,11 +7,11 @@ use Rattle.vi_model.specs.Control.{Queued, Setting, Link, Started, driver_count,
 use Rattle.vi_model.specs.Places.{place_count}
 use Rattle.vi_model.specs.Starts.{queued_call, setting_call}
 use Rattle.vi_model.specs.Worlds.{World, seat_of}
-use Rattle.vi_model.specs.Asking.{one_if}
+use Rattle.vi_model.specs.Asking.{one_if, count_option}
 use Rattle.vi_model.specs.Sound.{SoundParts, IsSound}
 use Rattle.vi_model.specs.Bounds.{HistoryFits, OpenCallsFit, SubmitsFit, AnswersOnce, CallsFit, HasFewFrames, LanesFit, HasStartRoom, RequestsFit, SettingsFit, HasMissRoom, MissesFit, AsksFit, AcksFit}
 use Rattle.vi_model.proofs.Counts.{history_few}
-use Rattle.vi_model.proofs.Bounds.{waiting_few, removal_room, lanes_few, acks_few}
+use Rattle.vi_model.proofs.Bounds.{one_most, waiting_few, removal_room, lanes_few, acks_few}
 use Rattle.vi_model.proofs.Maps.{map_room}
 use Rattle.vi_model.proofs.Drives.{no_setting}
 use Rattle.vi_model.proofs.Faults.{faults_few, transfers_few, record_room, grant_room}
@@ -86,6 +86,7 @@ miss_room s w k x m valid ok t =
       update = omega (arith, a, b, size);
       reply = none;
       shown = record_room s w k x m valid ok t;
+      alone = let one = (ok.backs k t.below).miss.one in let most = one_most (seat_of w k).asking in omega (arith, one, most);
       faults = let few = faults_few s w k x m valid ok t in let all = transfers_few s in let most = valid.few in omega (arith, few, all, most);
     }
 
@@ -100,8 +101,12 @@ asks_fit s w k m ok lt e =
     let wishes = wishes_ask s k (seat_of w k) m e in
     let one = (ok.backs k lt).miss.one in
     let idle : one_if (seat_of w k).asking ≡ 0 = ap one_if wishes.idle in
-    none_more (link_of w.control k).up (omega (arith, one, idle))
+    (none_more (link_of w.control k).up (omega (arith, one, idle)), not_there (link_of w.control k).parked (omega (arith, one, idle)))
   where
+    not_there : (o : Option Miss) → count_option o ≡ 0 → o ≡ None
+    not_there None h = refl
+    not_there (Some m) h = absurd (omega (arith, h))
+
     none_more : (xs : List Miss) → length xs ≡ 0 → xs ≡ []
     none_more [] h = refl
     none_more (x ∷ xs) h = absurd (omega (arith, h))

@@ -85,14 +85,16 @@ pub record HasMissRoom (c : Control) (x : Link) (m : Miss) : Type 0 where
   pub reply : x.replies ≡ []
   pub shown : 1 ≤ c.events.room
   pub faults : length c.events.shown + c.events.dropped < 10000
+  pub alone : length x.up + count_option x.parked ≤ 1
 
 abbrev pub MissesFit : Type 0
 MissesFit = (s : ScriptValue) (w : World) (place : ℕ) (m : Miss) → IsPlayable s → IsSound s w → place < place_count s → IsThere (link_of w.control place) m
     → HasMissRoom w.control (link_of w.control place) m
 
--- a back end that asks has no other miss on its way up
+-- a back end that asks has no other miss on its way up, and none parked
 abbrev pub AsksFit : Type 0
-AsksFit = (s : ScriptValue) (w : World) (place : ℕ) (m : Miss) → IsSound s w → place < place_count s → wish s place (seat_of w place) ≡ Asks m → (let x : Link = link_of w.control place in x.up) ≡ []
+AsksFit = (s : ScriptValue) (w : World) (place : ℕ) (m : Miss) → IsSound s w → place < place_count s → wish s place (seat_of w place) ≡ Asks m
+    → ((let x : Link = link_of w.control place in x.up) ≡ []) × ((let x : Link = link_of w.control place in x.parked) ≡ None)
 
 -- a back end that takes an Invalidate finds room for the acknowledgement
 abbrev pub AcksFit : Type 0
