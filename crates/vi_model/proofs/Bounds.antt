@@ -1,6 +1,6 @@
 -- The open lines, the open removals and the lanes are within their bounds.
-use Rattle.std.proofs.Common.{◌≡◌, ◌==◌, ℕ, zero, suc, ◌+◌, ◌-◌, ◌≤◌, ◌<◌, Bool, true, false, cond, ◌&&◌, List, [], ◌∷◌, ◌++◌, length, get_or, Option, refl, arith, ◌∙◌, ap, sym, subst, ◌⊎◌, inl, inr, length-append}
-use Rattle.std.specs.List.{AllByRecursion, range_with_len}
+use Rattle.std.proofs.Common.{◌≡◌, ◌==◌, ℕ, zero, suc, ◌+◌, ◌-◌, ◌≤◌, ◌<◌, Bool, true, false, cond, ◌&&◌, ◌||◌, List, [], ◌∷◌, ◌++◌, length, get_or, Option, refl, arith, ◌∙◌, ap, sym, subst, ◌⊎◌, inl, inr, length-append}
+use Rattle.std.specs.List.{AllByRecursion, list_any, range_with_len}
 use Rattle.std.specs.Prelude.{sum_by}
 use Rattle.std.proofs.lemmas.Bool.{cases_eq, cases_lt, eq-eqb, ne_eqb}
 use Rattle.vi_bytes.specs.declared.span.Span.{Span}
@@ -330,3 +330,20 @@ acks_few s w k ok lt =
     let d = length-append p.link.gone (sent_reaches (link_of w.control k).down) in
     let e = p.link.count in
     omega (arith, b, c, d, e)
+
+-- one that is awaited is waited for
+some_waits : (k : ℕ) (rs : List Removal) → 0 < length (awaited_reaches k rs) → list_any (waits_for k) rs ≡ true
+some_waits k [] h = absurd (omega (arith, h))
+some_waits k (r ∷ rs) h = go (waits_for k r) h (some_waits k rs)
+  where
+    go : (b : Bool) → 0 < length (cond b (reach_of r.task ∷ awaited_reaches k rs) (awaited_reaches k rs)) → (0 < length (awaited_reaches k rs) → list_any (waits_for k) rs ≡ true) → (b || list_any (waits_for k) rs) ≡ true
+    go true h rest = refl
+    go false h rest = rest h
+
+pub acks_awaited : (s : ScriptValue) (w : World) (k : ℕ) → SoundParts s w → k < place_count s → 0 < (link_of w.control k).acks → list_any (waits_for k) w.control.removals ≡ true
+acks_awaited s w k ok lt some =
+    let p = ok.backs k lt in
+    let c : length (awaited_reaches k w.control.removals) ≡ length (p.link.gone ++ sent_reaches (link_of w.control k).down) = ap (λ (xs : List (Option Span)). length xs) p.link.order in
+    let d = length-append p.link.gone (sent_reaches (link_of w.control k).down) in
+    let e = p.link.count in
+    some_waits k w.control.removals (omega (arith, c, d, e, some))

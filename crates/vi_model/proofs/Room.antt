@@ -9,9 +9,9 @@ use Rattle.vi_model.specs.Starts.{queued_call, setting_call}
 use Rattle.vi_model.specs.Worlds.{World, seat_of}
 use Rattle.vi_model.specs.Asking.{one_if, count_option}
 use Rattle.vi_model.specs.Sound.{SoundParts, IsSound}
-use Rattle.vi_model.specs.Bounds.{HistoryFits, OpenCallsFit, SubmitsFit, AnswersOnce, CallsFit, HasFewFrames, LanesFit, HasStartRoom, RequestsFit, SettingsFit, HasMissRoom, MissesFit, AsksFit, AcksFit}
+use Rattle.vi_model.specs.Bounds.{AcksAreAwaited, MappingsAreWhole, HistoryFits, OpenCallsFit, SubmitsFit, AnswersOnce, CallsFit, HasFewFrames, LanesFit, HasStartRoom, RequestsFit, SettingsFit, HasMissRoom, MissesFit, AsksFit, AcksFit}
 use Rattle.vi_model.proofs.Counts.{history_few}
-use Rattle.vi_model.proofs.Bounds.{one_most, waiting_few, removal_room, lanes_few, acks_few}
+use Rattle.vi_model.proofs.Bounds.{acks_awaited, one_most, waiting_few, removal_room, lanes_few, acks_few}
 use Rattle.vi_model.proofs.Maps.{map_room}
 use Rattle.vi_model.proofs.Drives.{no_setting}
 use Rattle.vi_model.proofs.Faults.{faults_few, transfers_few, record_room, grant_room}
@@ -130,3 +130,11 @@ submits_fit s w j l play ok lt next batch = record { call = submits_few s w j l 
 pub answers_once : AnswersOnce
 unfolding IsSound
 answers_once s w j line ok lt = let d = ok.drivers j lt in let one = d.one line in let once = d.once line in omega (arith, one, once)
+
+pub acks_are_awaited : AcksAreAwaited
+unfolding IsSound
+acks_are_awaited s w k ok lt some = acks_awaited s w k ok lt some
+
+pub mappings_are_whole : MappingsAreWhole
+unfolding IsSound
+mappings_are_whole s w ok = ok.whole

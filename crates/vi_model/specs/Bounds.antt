@@ -5,6 +5,8 @@ use Rattle.vi_history.specs.declared.call.Caller.TheVariants.{Driver}
 use Rattle.vi_script.specs.declared.line.Line.{Line}
 use Rattle.vi_script.specs.Value.{ScriptValue}
 use Rattle.vi_script.specs.Calls.{line_of}
+use Rattle.std.specs.List.{list_any}
+use Rattle.vi_model.specs.Removals.{waits_for}
 use Rattle.vi_model.specs.Lanes.{Down, Invalidate, Miss}
 use Rattle.vi_model.specs.Grants.{lease_under}
 use Rattle.vi_model.specs.Control.{Queued, Setting, Port, Link, Control, Started, driver_count, port_of, link_of}
@@ -19,6 +21,7 @@ use Rattle.vi_model.specs.Worlds.{World, stand_of, seat_of}
 use Rattle.vi_model.specs.Rooms.{is_map, mappings_in}
 use Rattle.vi_model.specs.Playable.{IsPlayable}
 use Rattle.vi_model.specs.Sound.{IsSound}
+use Rattle.vi_model.specs.Whole.{IsWholeDev}
 
 -- a sound world's history has fewer entries than a ticket of 64 bits can count
 abbrev pub HistoryFits : Type 0
@@ -100,3 +103,12 @@ AsksFit = (s : ScriptValue) (w : World) (place : ℕ) (m : Miss) → IsSound s w
 abbrev pub AcksFit : Type 0
 AcksFit = (s : ScriptValue) (w : World) (place : ℕ) (reach : Option Span) (rest : List Down) → IsPlayable s → IsSound s w → place < place_count s
     → (let x : Link = link_of w.control place in x.down) ≡ Invalidate reach ∷ rest → (let x : Link = link_of w.control place in x.acks) < 8
+
+-- where an acknowledgement is under way, a removal waits for its back end
+abbrev pub AcksAreAwaited : Type 0
+AcksAreAwaited = (s : ScriptValue) (w : World) (place : ℕ) → IsSound s w → place < place_count s → 0 < (let x : Link = link_of w.control place in x.acks)
+    → list_any (waits_for place) w.control.removals ≡ true
+
+-- a sound world's mappings are whole pages
+abbrev pub MappingsAreWhole : Type 0
+MappingsAreWhole = (s : ScriptValue) (w : World) → IsSound s w → IsWholeDev w.control.dev

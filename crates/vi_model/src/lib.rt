@@ -3,7 +3,7 @@
 #![tactic(auto)]
 
 ghost use Rattle.vi_model.specs.Bound.{MovesLower};
-ghost use Rattle.vi_model.specs.Bounds.{AcksFit, AnswersOnce, AsksFit, CallsFit, HistoryFits, LanesFit, MissesFit, OpenCallsFit, RequestsFit, SettingsFit, SubmitsFit};
+ghost use Rattle.vi_model.specs.Bounds.{AcksAreAwaited, AcksFit, AnswersOnce, AsksFit, CallsFit, HistoryFits, LanesFit, MappingsAreWhole, MissesFit, OpenCallsFit, RequestsFit, SettingsFit, SubmitsFit};
 ghost use Rattle.vi_model.specs.Delivered.{RecordsAreShownWell};
 ghost use Rattle.vi_model.specs.Laws.{AccessesKeepSound, ActorsAccess, ActorsGoOn, ControlKeepsSound, EveryRunIsLegal, FewerLeasesKeepSound, FinishedIsOrdered, OnlyMovedChanges, OpeningIsSound, OthersStay, PlacesHaveIds, SoundIsLegal, TurnsKeepSound};
 ghost use Rattle.vi_model.specs.Rounds.{FinishedHasFinished, RoundsFinish};
@@ -68,6 +68,16 @@ pub fn open_calls_fit()
 /// In a sound world there is room for the next line of a driver whose open lines are all of that line's batch.
 pub fn submits_fit()
     ensures { SubmitsFit }
+{}
+
+/// In a sound world a removal waits for each back end with an acknowledgement under way.
+pub fn acks_are_awaited()
+    ensures { AcksAreAwaited }
+{}
+
+/// In a sound world mappings and regions are whole pages.
+pub fn mappings_are_whole()
+    ensures { MappingsAreWhole }
 {}
 
 /// In a sound world no line of a driver is answered twice.
