@@ -1,0 +1,4 @@
+pub mod Value
+pub mod Buffers
+pub mod Inside
+pub mod Queue
