@@ -9,3 +9,4 @@ pub mod ValidLemmas
 pub mod SoundLemmas
 pub mod TransferLemmas
 pub mod BuiltLemmas
+pub mod FieldLemmas

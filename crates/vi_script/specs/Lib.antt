@@ -19,3 +19,4 @@ pub mod Drafts
 pub mod Parsing
 pub mod Valid
 pub mod Built
+pub mod Fields

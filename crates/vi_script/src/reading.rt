@@ -1,6 +1,7 @@
 //! Scripts are read from texts.
 ghost use Rattle.std.specs.Prelude.{◌≡◌, ◌^◌, ◌-◌, ◌<◌, ◌≤◌, length, OnOk, IfOk, MatchResult, Ok};
 ghost use Rattle.vi_script.specs.Faults.{Reads};
+ghost use Rattle.vi_script.specs.Fields.{LinesFit, HasFields};
 ghost use Rattle.vi_script.specs.Forms.{form_of};
 ghost use Rattle.vi_script.specs.Texts.{judge, judge_words, script};
 ghost use Rattle.vi_script.specs.Calls.{HasTransfers};
@@ -21,6 +22,7 @@ pub fn parse(alloc: Global, bytes: &[u8]) -> Result<Script, ScriptFault>
     ensures read { MatchResult result (λ s. script bytes.now ≡ Ok s) (λ e. Faults e (script bytes.now)) }
     ensures valid { IfOk result IsValid }
     ensures transfers { IfOk result HasTransfers }
+    ensures fields { IfOk result HasFields }
 {
     let mut draft = Draft::new(alloc);
     let mut lines = Lines::of(bytes);
@@ -38,10 +40,12 @@ pub fn parse(alloc: Global, bytes: &[u8]) -> Result<Script, ScriptFault>
 /// What is said behind the line of this number, counted from 1, which stands below what was said.
 #[tactic(auto, unfolding(crate::specs::Texts::judge))]
 fn next(alloc: Global, draft: Draft, number: u32, line: &[u8]) -> Result<Draft, Refusal>
-    requires { length draft.lines < number }
+    requires lines { length draft.lines < number }
+    requires fields { LinesFit draft.lines }
     ensures next { Reads (λ said. said) result (judge draft number line.now) }
     ensures few { OnOk result (number ≤ 10000) }
     ensures lines { IfOk result (λ said. length said.lines ≤ number) }
+    ensures fields { IfOk result (λ said. LinesFit said.lines) }
 {
     if has_bad_byte(line) {
         return Err(Refusal::Bad(BadKind::Byte));
@@ -58,10 +62,12 @@ fn next(alloc: Global, draft: Draft, number: u32, line: &[u8]) -> Result<Draft, 
 
 /// What is said behind the line of these words and this number.
 fn said(alloc: Global, draft: Draft, number: u32, words: Words) -> Result<Draft, Refusal>
-    requires { length draft.lines < number }
+    requires lines { length draft.lines < number }
+    requires fields { LinesFit draft.lines }
     ensures next { Reads (λ said. said) result (judge_words draft number (form_of words.entry)) }
     ensures few { OnOk result (number ≤ 10000) }
     ensures lines { IfOk result (λ said. length said.lines ≤ number) }
+    ensures fields { IfOk result (λ said. LinesFit said.lines) }
 {
     let form = form(alloc, words)?;
     if draft.is_late(&form) {

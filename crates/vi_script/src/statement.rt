@@ -2,6 +2,7 @@
 ghost use Rattle.std.specs.Prelude.{◌≡◌, IfOk};
 ghost use Rattle.std.specs.List.{list_all};
 ghost use Rattle.vi_script.specs.Faults.{Reads};
+ghost use Rattle.vi_script.specs.Fields.{JobFits, StatementFits};
 ghost use Rattle.vi_script.specs.Formed.{deed_of, acted, formed};
 ghost use Rattle.vi_script.specs.Forms.{SendsRaw};
 ghost use Rattle.vi_script.specs.Names.{named, awaited, turned};
@@ -53,6 +54,7 @@ pub enum Parsed {
 pub fn statement(alloc: Global, form: FormWords) -> Result<Parsed, Refusal>
     ensures statement { Reads stated result (statement_of (formed form.entry)) }
     ensures fit { IfOk result HaveNames }
+    ensures fields { IfOk result (λ s. StatementFits (stated s)) }
 {
     match form {
         FormWords::Sets(setting, word) => Ok(Parsed::Sets(setting, number_at(word)?)),
@@ -129,7 +131,8 @@ fn bypass_flag(bypass: bool) -> u32
 
 /// The job of a deed: its numbers are read first, and then its bytes.
 fn job(alloc: Global, deed: DeedWords) -> Result<JobNumbers, Refusal>
-    ensures { Reads job_of_numbers result (job_of (deed_of deed.entry)) }
+    ensures job { Reads job_of_numbers result (job_of (deed_of deed.entry)) }
+    ensures fields { IfOk result (λ j. JobFits (job_of_numbers j)) }
 {
     match deed {
         DeedWords::Attach {
@@ -185,7 +188,8 @@ fn job(alloc: Global, deed: DeedWords) -> Result<JobNumbers, Refusal>
 
 /// A request of these bytes with so many writable ones.
 fn raw(alloc: Global, hex: &[u8], writable: &[u8]) -> Result<JobNumbers, Refusal>
-    ensures { Reads job_of_numbers result (job_of (SendsRaw hex.now writable.now)) }
+    ensures job { Reads job_of_numbers result (job_of (SendsRaw hex.now writable.now)) }
+    ensures fields { IfOk result (λ j. JobFits (job_of_numbers j)) }
 {
     let write = number_at(writable)?;
     let read = raw_bytes_at(alloc, hex)?;
@@ -197,6 +201,7 @@ fn raw(alloc: Global, hex: &[u8], writable: &[u8]) -> Result<JobNumbers, Refusal
 fn line(alloc: Global, caller: Name, act: ActWords) -> Result<ActorLine, Refusal>
     ensures line { Reads line_of_names result (line_with (named caller) (acted act.entry)) }
     ensures fit { IfOk result HasNames }
+    ensures fields { IfOk result (λ l. JobFits (job_of_numbers l.job)) }
 {
     let ActWords { deed, add, awaits } = act;
     if !caller.fits() || !all_fit(&awaits) {

@@ -1,5 +1,6 @@
 use Rattle.std.proofs.Common.{◌+◌, ap, ◌∙◌}
 use Rattle.vi_script.specs.Texts.{said_from}
+use Rattle.vi_script.proofs.FieldLemmas.{HasFields-script_of}
 use Rattle.vi_script.proofs.ReadingLemmas.{script-refused, script-read}
 use Rattle.vi_script.proofs.SoundLemmas.{script-valid}
 use Rattle.vi_script.proofs.TransferLemmas.{HasTransfers-from_valid}
@@ -20,3 +21,6 @@ returns-clause-valid c = script-valid c.args.bytes.now c.in_ok-into_script.field
 
 pub returns-clause-transfers : goal.returns-clause-transfers
 returns-clause-transfers c = HasTransfers-from_valid c.in_ok-into_script.field-0 (returns-clause-valid c)
+
+pub returns-clause-fields : goal.returns-clause-fields
+returns-clause-fields c = rw c.in_ok-into_script.ensures (HasFields-script_of c.loop-line.draft c.loop-line.invariant.fields)
