@@ -60,3 +60,4 @@ pub mod Rounds
 pub mod Finishes
 pub mod Tested
 mod OpenCalls
+pub mod Playable

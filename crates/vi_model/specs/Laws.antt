@@ -5,6 +5,8 @@ use Rattle.vi_bytes.specs.declared.lease.Lease.{Lease}
 use Rattle.vi_script.specs.declared.line.Who.{Who}
 use Rattle.vi_script.specs.declared.line.Who.TheVariants as who
 use Rattle.vi_script.specs.Value.{ScriptValue}
+use Rattle.vi_script.specs.Valid.{IsValid}
+use Rattle.vi_script.specs.Fields as fields
 use Rattle.vi_history.specs.declared.call.Caller.TheVariants.{Driver}
 use Rattle.vi_script.specs.Calls.{lines_of}
 use Rattle.vi_script.specs.Ordered.{IsOrdered}
@@ -17,6 +19,10 @@ use Rattle.vi_model.specs.Worlds.{World, stand_of, seat_of, actor_of, with_actor
 use Rattle.vi_model.specs.Turns.{Moved, ControlTurn, AccessTurn, control_turn, accesses, access_turn, left_by, left_by_access, turn, run}
 use Rattle.vi_model.specs.Playable.{IsPlayable}
 use Rattle.vi_model.specs.Sound.{IsSound}
+
+-- a valid script whose requests fit their fields can be played
+abbrev pub ValidIsPlayable : Type 0
+ValidIsPlayable = (s : ScriptValue) → IsValid s → fields.HasFields s → IsPlayable s
 
 -- the world in which nothing has happened is sound
 abbrev pub OpeningIsSound : Type 0

@@ -5,13 +5,18 @@
 ghost use Rattle.vi_model.specs.Bound.{MovesLower};
 ghost use Rattle.vi_model.specs.Bounds.{AcksAreAwaited, AcksFit, AnswersOnce, AsksFit, CallsFit, HistoryFits, LanesFit, MappingsAreWhole, MissesFit, OpenCallsFit, RequestsFit, SettingsFit, SubmitsFit};
 ghost use Rattle.vi_model.specs.Delivered.{RecordsAreShownWell};
-ghost use Rattle.vi_model.specs.Laws.{AccessesKeepSound, ActorsAccess, ActorsGoOn, ControlKeepsSound, EveryRunIsLegal, FewerLeasesKeepSound, FinishedIsOrdered, OnlyMovedChanges, OpeningIsSound, OthersStay, PlacesHaveIds, SoundIsLegal, TurnsKeepSound};
+ghost use Rattle.vi_model.specs.Laws.{AccessesKeepSound, ActorsAccess, ActorsGoOn, ControlKeepsSound, EveryRunIsLegal, FewerLeasesKeepSound, FinishedIsOrdered, OnlyMovedChanges, OpeningIsSound, OthersStay, PlacesHaveIds, SoundIsLegal, TurnsKeepSound, ValidIsPlayable};
 ghost use Rattle.vi_model.specs.Rounds.{FinishedHasFinished, RoundsFinish};
 ghost use Rattle.vi_model.specs.Taken.{FinishedIsTaken, StartedIsTaken};
 
 mod task;
 
 pub use task::Task;
+
+/// A valid script whose requests fit their fields is playable, so every script that is parsed is.
+pub fn valid_is_playable()
+    ensures { ValidIsPlayable }
+{}
 
 /// The world of a playable script in which nothing has happened is sound.
 pub fn opening_is_sound()
