@@ -47,8 +47,8 @@ impl Buffers {
         Ok(Buffers { ring, heads })
     }
 
-    /// Puts a record of these bytes into the buffer that was offered first, and answers `true`; `false` where each
-    /// buffer has a record, and then nothing changes.
+    /// Puts a record of these bytes into the buffer that was offered first, and answers `true`; `false`
+    /// where each buffer has a record, and then nothing changes.
     pub fn put(&mut self, bytes: &[u8; 24]) -> bool
         ensures room { result ≡ nat_lt (length self.old.records) self.old.buffers }
         ensures put { self.new ≡ (if result then with_record bytes.now self.old else self.old) }
@@ -96,8 +96,8 @@ fn offer(ring: &mut Ring)
     ring.add(&[], RECORD).unwrap();
 }
 
-// The bytes are written to the first available buffer, whose chain becomes used; its head, or `None` where no buffer
-// is available.
+// The bytes are written to the first available buffer, whose chain becomes used; its head, or `None` where no
+// buffer is available.
 fn fill(ring: &mut Ring, bytes: &[u8; 24]) -> Option<Head>
     requires { IsEventRing ring.old }
     ensures events { IsEventRing ring.new }

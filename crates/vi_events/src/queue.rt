@@ -11,9 +11,9 @@ use std::marker::Model;
 use vi_history::Shown;
 use vi_vring::Ring;
 
-/// The event queue (Virtio 1.2, 5.13.6.9): the fault records that were delivered, of which the last ones are still in
-/// the driver's buffers until a reader takes them, and how many were dropped. Room for so many records is taken when
-/// it is built, and no later call takes memory.
+/// The event queue (Virtio 1.2, 5.13.6.9): the fault records that were delivered, of which the last ones are
+/// still in the driver's buffers until a reader takes them, and how many were dropped. Room for the records is
+/// taken when it is built, and no later call takes memory.
 #[derive(Drop)]
 pub struct EventQueue {
     buffers: Buffers,
@@ -39,7 +39,7 @@ impl Model for EventQueue {
 
 impl EventQueue {
     /// So many buffers, which the driver has offered, and room for so many records. No record was delivered or
-    /// dropped. An error is want of memory. A ring has 16, 32, 64, 128 or 256 buffers.
+    /// dropped yet. An error is want of memory. Condition: there are 16, 32, 64, 128 or 256 buffers.
     pub fn build(alloc: Global, buffers: u16, room: u32) -> Result<EventQueue, AllocError>
         requires { IsRingSize buffers }
         ensures { IfOk result (λ q. q ≡ record { buffers = buffers; events = no_events room }) }
@@ -55,8 +55,8 @@ impl EventQueue {
         })
     }
 
-    /// A fault's record of these bytes is written to the buffer that was offered first, or dropped where no buffer is free. Its
-    /// number is that of its fault, from 1.
+    /// A fault's record of these bytes is written to the buffer that was offered first, or dropped where no
+    /// buffer is free. Its number is that of its fault, from 1.
     pub fn note(&mut self, bytes: &[u8; 24])
         requires room { 1 ≤ self.old.events.room }
         requires few { length self.old.events.shown + self.old.events.dropped + 1 < 2 ^ 32 }
@@ -74,8 +74,8 @@ impl EventQueue {
         self.room -= 1;
     }
 
-    /// The oldest record that nobody has taken, read from its buffer, which is offered again; `None` where there is
-    /// none, and then nothing changes.
+    /// The oldest record that nobody has taken, read from its buffer, which is offered again; `None` where
+    /// there is none, and then nothing changes.
     pub fn take(&mut self) -> Option<[u8; 24]>
         ensures oldest { result ≡ option_map (λ s. s.bytes) (slice_get self.old.events.waiting 0) }
         ensures none { IsNone result ↔ (self.old.events.waiting ≡ []) }
@@ -100,8 +100,8 @@ impl EventQueue {
         self.dropped
     }
 
-    /// The ring of the buffers: those that wait for a record are available, and the others used with their records,
-    /// the oldest first.
+    /// The ring of the buffers: those that wait for a record are available, and the others used with their
+    /// records, the oldest first.
     pub fn queue(&self) -> &Ring
         ensures size { result.now.size ≡ self.now.buffers }
         ensures known { result.now.lists ≡ Some (lists_in result.now) }
