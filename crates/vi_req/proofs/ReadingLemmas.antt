@@ -150,6 +150,18 @@ module _ (bytes : List ℕ) (write : ℕ) where
   reading-as (Ok request) is room = reading-IsRequest request room is
   reading-as (Err fault) is room = reading-RefusedAs fault room is
 
+silent : (a b short : Bool) (rest : Reading) → short ≡ true → cond a Silent (cond b Silent (cond short Silent rest)) ≡ Silent
+silent true b short rest e = refl
+silent false true short rest e = refl
+silent false false true rest e = refl
+silent false false false rest e = cc
+
+-- bytes with too little room for the answer get none
+pub reading-short : (read : List ℕ) (write : ℕ) → write < writable_size (byte_at 0 read) → reading read write ≡ Silent
+unfolding reading
+reading-short read write short =
+    silent _ _ (nat_lt write (writable_size (byte_at 0 read))) _ (lt-ltb write (writable_size (byte_at 0 read)) short)
+
 -- what was written for a request asks for it
 pub reading-request_bytes : (request : Request) → FieldsFit request → reading (request_bytes request) (writable_size (type_of request)) ≡ Asks request
 reading-request_bytes request fit =
