@@ -1,0 +1,16 @@
+pub mod Counting
+pub mod Replying
+pub mod Firsts
+pub mod Tables
+pub mod Ports
+pub mod Submits
+pub mod Known
+pub mod Submitting
+pub mod Takes
+pub mod Taking
+pub mod Writes
+pub mod Writing
+pub mod Collects
+pub mod Collecting
+pub mod Showing
+pub mod Building

@@ -1,0 +1,10 @@
+use Rattle.std.proofs.Common.{◌<◌, length, Some, None}
+use Rattle.vi_calls.specs.Inner.{lists_or}
+use Rattle.vi_calls.proofs.Ports.{set-is}
+use Rattle.vi_calls.proofs.calls.Calls.answer_setting.Goals as goal
+
+pub returns : goal.returns
+returns c =
+    let s = c.self.inside in
+    let lt : c.args.driver < length s.rows.items = rw c.self.invariant.drivers c.requires.driver in
+    rw (← c.self.view_is) (set-is s.submitted s.rows.items (lists_or s.ring.lists) c.args.driver c.index_mut-row.result.now lt c.index_mut-row.ensures.value c.add.new.self c.args.line c.add.ensures)

@@ -1,0 +1,1 @@
+//! The open calls, as a driver and the device meet them.
