@@ -1,13 +1,11 @@
 -- No open call.
-use Rattle.std.proofs.Common.{◌≡◌, ℕ, ◌≤◌, List, [], replicate, length, ◌⊎◌, inl, inr, refl, arith}
-use Rattle.std.specs.Prelude.{sum_by}
+use Rattle.std.proofs.Common.{◌≡◌, ℕ, ◌≤◌, List, replicate, length, inl, inr, refl, arith}
 use Rattle.std.proofs.lemmas.List.Elements.{All-nil}
-use Rattle.vi_vring.specs.Values as ring
-use Rattle.vi_vring.specs.Moves.{IsRingSize, ShowsChain, chain_of, new_ring, no_lists, head_count}
+use Rattle.vi_vring.specs.Moves.{IsRingSize, ShowsChain, chain_of, new_ring, no_lists}
 use Rattle.vi_calls.specs.declared.calls.Submitted.{Submitted}
 use Rattle.vi_calls.specs.declared.calls.Calls.TheInside.{Inside}
-use Rattle.vi_calls.specs.Rows.{RowValue, no_row}
-use Rattle.vi_calls.specs.Inner.{shown, seen, AreTied, IsWhole, IsKept, lists_or}
+use Rattle.vi_calls.specs.Rows.{no_row}
+use Rattle.vi_calls.specs.Inner.{AreTied, IsWhole, IsKept}
 
 least : (n : ℕ) → IsRingSize n → 16 ≤ n
 least n (inl e) = omega (arith, e)

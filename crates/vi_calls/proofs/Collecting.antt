@@ -1,17 +1,16 @@
 -- The fields that keep the open calls, with a driver's first answered line collected.
-use Rattle.std.proofs.Common.{◌≡◌, ℕ, ◌<◌, ◌≤◌, List, [], ◌++◌, length, drop, set, get_or, Option, Some, None, true, IfSome, IsSome, refl, ap, sym, ◌∙◌, length-set, arith}
-use Rattle.std.specs.Prelude.{count_by, find, is_some, ◌==◌}
+use Rattle.std.proofs.Common.{◌≡◌, ℕ, ◌<◌, List, length, get_or, Option, Some, None, true, IfSome, IsSome, refl, ap, sym, ◌∙◌, length-set, arith}
+use Rattle.std.specs.Prelude.{find, is_some}
 use Rattle.std.specs.Option.{option_map}
 use Rattle.std.specs.Vec.{with_item}
 use Rattle.vi_history.specs.Replies.{Answer, set_answer}
 use Rattle.vi_vring.specs.Values as ring
-use Rattle.vi_vring.specs.Moves.{ShowsPopped, ring_after_collect, lists_after_collect, used_with} 
+use Rattle.vi_vring.specs.Moves.{ShowsPopped, ring_after_collect, lists_after_collect, used_with}
 use Rattle.vi_vring.specs.Moves as moves
 use Rattle.vi_calls.specs.declared.row.Token.{Token}
-use Rattle.vi_calls.specs.declared.calls.Collected.{Collected}
-use Rattle.vi_calls.specs.declared.calls.Collected.TheVariants.{NotYet, Used, Set}
+use Rattle.vi_calls.specs.declared.calls.Collected.TheVariants.{Used}
 use Rattle.vi_calls.specs.declared.calls.Calls.TheInside.{Inside}
-use Rattle.vi_calls.specs.Replies.{answer_of, answer_bytes, is_set}
+use Rattle.vi_calls.specs.Replies.{answer_of, answer_bytes}
 use Rattle.vi_calls.specs.Value.{port_at}
 use Rattle.vi_calls.specs.Collecting.{AreAnsweredOnce, first_of, collected_as, collected_into, after_collect}
 use Rattle.vi_calls.specs.Rows.{RowValue, first_token, without_first}

@@ -1,24 +1,21 @@
 -- A driver's first answered line leaves, and with it its used chain.
-use Rattle.std.proofs.Common.{◌≡◌, ◌≢◌, ℕ, ◌+◌, ◌<◌, ◌≤◌, Bool, true, false, List, [], ◌∷◌, ◌++◌, length, map, get_or, set, Option, Some, None, refl, ap, sym, subst, ◌∙◌, arith}
-use Rattle.std.specs.Prelude.{count_by, sum_by, find, ◌==◌, if◌then◌else◌}
+use Rattle.std.proofs.Common.{◌≡◌, ℕ, ◌+◌, ◌<◌, ◌≤◌, Bool, List, length, map, get_or, set, Some, None, refl, ap, sym, subst, ◌∙◌, arith}
+use Rattle.std.specs.Prelude.{count_by, sum_by, find, ◌==◌}
 use Rattle.std.specs.Option.{option_map}
 use Rattle.std.specs.List.{AllByRecursion}
 use Rattle.std.proofs.lemmas.List.{map-set, set-get_or}
-use Rattle.vi_history.specs.Replies.{Answer}
 use Rattle.vi_vring.specs.Values as ring
-use Rattle.vi_vring.specs.Moves.{lists_after_collect, head_count, without_used}
-use Rattle.vi_model.specs.Control.{Answered, Port, no_port}
-use Rattle.vi_model.specs.Drivers.{first_answer, other_answers}
+use Rattle.vi_vring.specs.Moves.{lists_after_collect, without_used}
+use Rattle.vi_model.specs.Control.{Port, no_port}
+use Rattle.vi_model.specs.Drivers.{other_answers}
 use Rattle.vi_calls.specs.declared.row.Token.{Token}
 use Rattle.vi_calls.specs.declared.calls.Submitted.{Submitted}
-use Rattle.vi_calls.specs.Replies.{answer_of, answer_bytes, is_set, AreAnswer}
-use Rattle.vi_calls.specs.Value.{CallsValue, port_at}
-use Rattle.vi_calls.specs.Moves.{with_row}
-use Rattle.vi_calls.specs.Collecting.{AreAnsweredOnce, first_of, without_answer, after_collect}
+use Rattle.vi_calls.specs.Value.{port_at}
+use Rattle.vi_calls.specs.Collecting.{AreAnsweredOnce, first_of, after_collect}
 use Rattle.vi_calls.specs.Rows.{RowValue, first_token, other_tokens, without_first, is_in, is_in_chain}
-use Rattle.vi_calls.specs.Inner.{shown, answered_by, answer_in, bytes_of, bytes_or, port_by, tokens_with, chains_in, Fits, HasAnswer, AreTied}
-use Rattle.vi_calls.proofs.Counting.{one, count-cons, one-same, has, All-without, find-present, find-without, count-without, length-without}
-use Rattle.vi_calls.proofs.Tables.{queued_head, used_head, used-without}
+use Rattle.vi_calls.specs.Inner.{shown, answered_by, bytes_or, port_by, tokens_with, chains_in, HasAnswer, AreTied}
+use Rattle.vi_calls.proofs.Counting.{one, one-same, has, All-without, find-without, count-without, length-without}
+use Rattle.vi_calls.proofs.Tables.{used_head, used-without}
 use Rattle.vi_calls.proofs.Firsts.{line_of, count-answers, first-answer, other-answers, count-others}
 use Rattle.vi_calls.proofs.Ports.{Agree, ports-same, row-below, sum-row, port-row}
 
@@ -100,7 +97,7 @@ module _ (table : List Submitted) (rows : List RowValue) (l : ring.Lists) (t : A
       pub AreTied-used : AreTied table (set rows d (without_first (first_token row.answered) row)) (lists_after_collect head l)
       AreTied-used =
           let gone : (k : ℕ) → count_by (has used_head k) (without_used head l.used) + one (head == k) ≡ count_by (has used_head k) l.used =
-            λ k. ap (λ us. count_by (has used_head k) us + one (head == k)) (used-without head l.used) ∙ count-without used_head head k l.used used-some in
+          λ k. ap (λ us. count_by (has used_head k) us + one (head == k)) (used-without head l.used) ∙ count-without used_head head k l.used used-some in
           let fewer : length (without_used head l.used) + 1 ≡ length l.used = ap (λ us. length us + 1) (used-without head l.used) ∙ length-without used_head head l.used used-some in
           rw first (record {
             once = λ k. omega (arith, gone k, t.once k);

@@ -1,6 +1,6 @@
 -- Lists whose elements have keys: how often a key is there, and the list without the first element that has it.
-use Rattle.std.proofs.Common.{◌≡◌, ◌≢◌, ℕ, ◌+◌, ◌≤◌, Bool, true, false, not, List, [], ◌∷◌, ◌++◌, length, map, Option, Some, None, refl, ap, sym, subst, ◌∙◌, arith}
-use Rattle.std.specs.Prelude.{if◌then◌else◌, ◌==◌, count_by, sum_by, filter, find, is_some}
+use Rattle.std.proofs.Common.{◌≡◌, ◌≢◌, ℕ, ◌+◌, ◌≤◌, Bool, true, false, not, List, [], ◌∷◌, ◌++◌, length, map, Some, None, refl, ap, sym, subst, arith}
+use Rattle.std.specs.Prelude.{if◌then◌else◌, ◌==◌, count_by, filter, find, is_some}
 use Rattle.std.specs.List.{AllByRecursion}
 use Rattle.std.proofs.lemmas.Bool.Decides.{nat_tests}
 use Rattle.std.proofs.lemmas.List.Sums.{sum_by-cons, sum_by-append}
@@ -48,9 +48,6 @@ is-same n = grind (arith, nat_tests)
 
 pub one-same : (n : ℕ) → one (n == n) ≡ 1
 one-same n = grind (arith, nat_tests)
-
-pub one-other : (m n : ℕ) → m ≢ n → one (m == n) ≡ 0
-one-other m n e = grind (arith, nat_tests)
 
 module _ {X : Type 0} (key : X → ℕ) where
   abbrev pub has : ℕ → X → Bool

@@ -1,10 +1,9 @@
 -- The first of a driver's answered lines.
-use Rattle.std.proofs.Common.{◌≡◌, ◌≢◌, ℕ, ◌+◌, ◌≤◌, ◌<◌, Bool, true, false, not, List, [], ◌∷◌, ◌++◌, length, map, Option, Some, None, refl, ap, sym, subst, ◌∙◌, arith}
-use Rattle.std.specs.Prelude.{if◌then◌else◌, ◌==◌, nat_lt, count_by, filter}
+use Rattle.std.proofs.Common.{◌≡◌, ℕ, ◌+◌, ◌≤◌, ◌<◌, Bool, true, false, not, List, [], ◌∷◌, map, Option, Some, None, refl, ap, subst, ◌∙◌, arith}
+use Rattle.std.specs.Prelude.{if◌then◌else◌, ◌==◌, nat_lt, count_by}
 use Rattle.std.specs.Option.{option_map}
 use Rattle.std.proofs.lemmas.Bool.Decides.{nat_tests}
 use Rattle.vi_vring.specs.Values.{Used}
-use Rattle.vi_model.specs.Control.{Answered}
 use Rattle.vi_model.specs.Drivers.{first_answer, other_answers}
 use Rattle.vi_model.specs.Drivers as drivers
 use Rattle.vi_model.specs.Held.{count_answers}
@@ -53,13 +52,13 @@ count-others p (a ∷ ts) t first once = go (first_token ts) refl first (λ b f.
         let none : count_by (has line_of a.line) ts ≡ 0 = omega (arith, once a.line, count-cons (has line_of a.line) a ts, self) in
         let rest : other_tokens a.line ts ≡ ts = filter-absent line_of a.line ts none in
         subst (λ (u : Token). count_by p (other_tokens u.line (a ∷ ts)) + one (p u) ≡ count_by p (a ∷ ts)) same
-          (rw (is, rest) (omega (arith, count-cons p a ts)))
+        (rw (is, rest) (omega (arith, count-cons p a ts)))
 
     later : (b : Token) → count_by p (other_tokens b.line ts) + one (p b) ≡ count_by p ts → b ≡ t → b.line < a.line → count_by p (other_tokens t.line (a ∷ ts)) + one (p t) ≡ count_by p (a ∷ ts)
     later b rest same below =
         let no : (a.line == b.line) ≡ false = grind (arith, nat_tests) in
         subst (λ (u : Token). count_by p (other_tokens u.line (a ∷ ts)) + one (p u) ≡ count_by p (a ∷ ts)) same
-          (rw no (omega (arith, count-cons p a ts, count-cons p a (other_tokens b.line ts), rest)))
+        (rw no (omega (arith, count-cons p a ts, count-cons p a (other_tokens b.line ts), rest)))
 
     choose : (b : Token) (c : Bool) → nat_lt b.line a.line ≡ c → count_by p (other_tokens b.line ts) + one (p b) ≡ count_by p ts → Some (if c then b else a) ≡ Some t
         → count_by p (other_tokens t.line (a ∷ ts)) + one (p t) ≡ count_by p (a ∷ ts)

@@ -1,5 +1,5 @@
 -- What the ring's calls say where its lists are known.
-use Rattle.std.proofs.Common.{◌≡◌, ℕ, ◌<◌, ◌≤◌, ◌↔◌, true, Option, Some, None, IfSome, Result, Ok, Err, IsOk, IsErr, arith, refl, ap, sym, subst, ◌∙◌}
+use Rattle.std.proofs.Common.{◌≡◌, ℕ, ◌<◌, ◌≤◌, ◌↔◌, Option, Some, None, IfSome, Result, Ok, Err, IsOk, IsErr, arith, refl}
 use Rattle.std.specs.Option.{option_map}
 use Rattle.vi_vring.specs.Values as ring
 use Rattle.vi_calls.specs.Inner.{lists_or}

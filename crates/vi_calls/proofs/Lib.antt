@@ -14,3 +14,5 @@ pub mod Collects
 pub mod Collecting
 pub mod Showing
 pub mod Building
+pub mod Sequels
+pub mod Sounds

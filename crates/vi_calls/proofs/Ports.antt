@@ -1,20 +1,18 @@
 -- The drivers' rows by their tokens and the used chains.
-use Rattle.std.proofs.Common.{◌≡◌, ◌≢◌, ℕ, zero, suc, ◌+◌, ◌<◌, ◌≤◌, Bool, true, false, List, [], ◌∷◌, ◌++◌, length, map, get_or, set, Option, Some, None, refl, ap, sym, ◌∙◌, arith, length-append}
-use Rattle.std.specs.Prelude.{count_by, sum_by, find, ◌==◌}
+use Rattle.std.proofs.Common.{◌≡◌, ◌≢◌, ℕ, zero, suc, ◌+◌, ◌<◌, ◌≤◌, Bool, true, false, List, [], ◌∷◌, length, map, get_or, set, Option, Some, None, refl, ap, sym, ◌∙◌, arith}
+use Rattle.std.specs.Prelude.{count_by, sum_by, ◌==◌}
 use Rattle.std.proofs.lemmas.List.{map-append, map-set, get_or-map}
 use Rattle.std.proofs.lemmas.List.Sums.{sum_by-cons, sum_by-set}
-use Rattle.std.proofs.lemmas.List.Folds.{find-append}
-use Rattle.vi_history.specs.Replies.{Answer, set_answer}
+use Rattle.vi_history.specs.Replies.{set_answer}
 use Rattle.vi_vring.specs.Values as ring
-use Rattle.vi_model.specs.Control.{Setting, Port, no_port}
+use Rattle.vi_model.specs.Control.{Setting, no_port}
 use Rattle.vi_calls.specs.declared.row.Token.{Token}
 use Rattle.vi_calls.specs.declared.calls.Submitted.{Submitted}
 use Rattle.vi_calls.specs.Value.{port_at}
 use Rattle.vi_calls.specs.Moves.{with_row, left, with_posted, answered}
 use Rattle.vi_calls.specs.Rows.{RowValue, added, is_in, is_head}
-use Rattle.vi_calls.specs.Inner.{bytes_or, bytes_of, answer_in, answered_by, port_by, shown, tokens_with}
-use Rattle.vi_calls.proofs.Counting.{one, count-cons, has, is-at, not-at, find-absent}
-use Rattle.vi_calls.proofs.Tables.{used_head}
+use Rattle.vi_calls.specs.Inner.{bytes_of, answer_in, answered_by, port_by, shown, tokens_with}
+use Rattle.vi_calls.proofs.Counting.{one, count-cons, not-at}
 
 -- but for one head, both have the same bytes
 abbrev pub Agree : ℕ → List ring.Used → List ring.Used → Type 0

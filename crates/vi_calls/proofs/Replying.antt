@@ -1,10 +1,10 @@
 -- The bytes of a reply say its answer.
-use Rattle.std.proofs.Common.{◌≡◌, ℕ, ◌+◌, Bool, true, false, List, [], ◌∷◌, ◌++◌, length, take, get_or, set, refl, ap, sym, ◌∙◌, arith, length-append}
-use Rattle.std.specs.Prelude.{if◌then◌else◌, ◌==◌, slice_index}
+use Rattle.std.proofs.Common.{◌≡◌, ℕ, ◌+◌, Bool, true, false, List, [], ◌∷◌, ◌++◌, length, take, get_or, set, refl, ap, sym, ◌∙◌, length-append}
+use Rattle.std.specs.Prelude.{if◌then◌else◌, ◌==◌}
 use Rattle.std.proofs.Math.Seq.{take-append_seam, set-append_seam, get_or-append_seam}
 use Rattle.vi_bytes.specs.Fields.{byte_at}
 use Rattle.vi_history.specs.Replies.{nothing_answer, status_answer, probed_answer}
-use Rattle.vi_calls.specs.Replies.{tail_bytes, answer_of, answer_bytes, is_set, AreAnswer}
+use Rattle.vi_calls.specs.Replies.{tail_bytes, answer_of, is_set, AreAnswer}
 
 pub answer_of-probed : (properties : List ℕ) (code : ℕ) → length properties ≡ 512 → answer_of (properties ++ tail_bytes code) ≡ probed_answer code properties
 answer_of-probed properties code whole =

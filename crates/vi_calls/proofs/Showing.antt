@@ -1,13 +1,12 @@
 -- The queue shows the open calls.
-use Rattle.std.proofs.Common.{◌≡◌, ◌≢◌, ℕ, zero, suc, ◌+◌, ◌<◌, ◌≤◌, Bool, true, false, not, List, [], ◌∷◌, length, map, get_or, Option, Some, None, refl, ap, sym, subst, ◌∙◌, arith}
+use Rattle.std.proofs.Common.{◌≡◌, ℕ, zero, suc, ◌≤◌, Bool, true, false, not, List, [], ◌∷◌, map, Option, Some, None, refl, ap, sym, ◌∙◌, arith}
 use Rattle.std.specs.Prelude.{count_by, sum_by, find, ◌==◌, if◌then◌else◌}
 use Rattle.std.specs.List.{AllByRecursion, Any}
 use Rattle.std.proofs.lemmas.List.Sums.{sum_by-cons}
 use Rattle.vi_vring.specs.Values as ring
-use Rattle.vi_model.specs.Control.{Answered, Port}
 use Rattle.vi_calls.specs.declared.row.Token.{Token}
 use Rattle.vi_calls.specs.declared.calls.Submitted.{Submitted}
-use Rattle.vi_calls.specs.Replies.{answer_of, answer_bytes, is_set}
+use Rattle.vi_calls.specs.Replies.{answer_bytes, is_set}
 use Rattle.vi_calls.specs.Shown.{chain_parts, call_parts, popped_parts, taken_parts, is_of_request, requests_in, IsWritten, AreWritten, ShowsCalls}
 use Rattle.vi_calls.specs.Rows.{RowValue, is_head, is_in, is_some_head, is_in_chain}
 use Rattle.vi_calls.specs.Inner.{shown, queued_by, taken_by, bytes_of, answer_in, answered_by, port_by, tokens_with, chains_in, HasAnswer, AreTied}
@@ -52,9 +51,11 @@ rows-shown used (r ∷ rows) =
 -- each used chain is found by its head
 each-found : (us : List ring.Used) → ((head : ℕ) → count_by (has used_head head) us ≤ 1) → AllByRecursion (λ u. find (has used_head u.head) us ≡ Some u) us
 each-found [] once = tt
-each-found (v ∷ vs) once =
-    (rw (is-same v.head) refl, All-each (λ u. find (has used_head u.head) vs ≡ Some u) (λ u. find (has used_head u.head) (v ∷ vs) ≡ Some u) vs later
-      (each-found vs (λ head. omega (arith, once head, count-cons (has used_head head) v vs))))
+each-found (v ∷ vs) once = (
+  rw (is-same v.head) refl,
+  All-each (λ u. find (has used_head u.head) vs ≡ Some u) (λ u. find (has used_head u.head) (v ∷ vs) ≡ Some u) vs later
+      (each-found vs (λ head. omega (arith, once head, count-cons (has used_head head) v vs))),
+)
   where
     all-used : (us : List ring.Used) → AllByRecursion (λ (u : ring.Used). Unit {0}) us
     all-used [] = tt
@@ -111,8 +112,8 @@ shows-calls table rows l t =
       available = available-shown table l.available;
       popped = popped-shown table l.popped;
       used = All-each (λ u. (find (has used_head u.head) l.used ≡ Some u) × HasAnswer u) (AreWritten (map (port_by l.used) rows)) l.used
-        (λ u is. rows-written l.used u is.0 is.1 rows (omega (arith, t.owned u.head, counted u is.0)))
-        (All-both (λ u. find (has used_head u.head) l.used ≡ Some u) HasAnswer l.used found t.replies);
+          (λ u is. rows-written l.used u is.0 is.1 rows (omega (arith, t.owned u.head, counted u is.0)))
+          (All-both (λ u. find (has used_head u.head) l.used ≡ Some u) HasAnswer l.used found t.replies);
       count = sym (rows-shown l.used rows ∙ t.chains);
     }
   where

@@ -1,13 +1,11 @@
 -- A request goes to the end of the queue.
-use Rattle.std.proofs.Common.{◌≡◌, ◌≢◌, ℕ, ◌+◌, ◌*◌, ◌-◌, ◌<◌, ◌≤◌, Bool, true, false, List, [], ◌∷◌, ◌++◌, length, map, set, refl, ap, sym, subst, ◌∙◌, arith}
+use Rattle.std.proofs.Common.{◌≡◌, ℕ, ◌+◌, ◌*◌, ◌<◌, ◌≤◌, Bool, true, false, List, [], ◌∷◌, length, map, set, refl, ap, subst, arith}
 use Rattle.std.specs.Prelude.{count_by, sum_by, ◌==◌}
-use Rattle.std.specs.List.{AllByRecursion}
 use Rattle.std.proofs.lemmas.Bool.Decides.{nat_tests}
 use Rattle.std.proofs.lemmas.List.{map-append, length-map}
 use Rattle.std.proofs.lemmas.List.Sums.{sum_by-cons, count_by-le-length}
 use Rattle.vi_vring.specs.Values as ring
 use Rattle.vi_vring.specs.Moves.{lists_after_add, head_count, part_needs, chain_needs, queued_needs, used_needs, free_count}
-use Rattle.vi_calls.specs.declared.row.Token.{Token}
 use Rattle.vi_calls.specs.declared.calls.Submitted.{Submitted}
 use Rattle.vi_calls.specs.Value.{open_count, answered_count}
 use Rattle.vi_calls.specs.Moves.{with_queued}
@@ -58,8 +56,12 @@ module _ (table : List Submitted) (rows : List RowValue) (l : ring.Lists) (t : A
     pub submit-is : head < length table → shown (set table head line) rows (lists_after_add head bytes write l)
         ≡ with_queued (record { driver = line.driver; line = line.line; read = bytes; write = write }) (shown table rows l)
     submit-is lt =
-        rw (map-append (queued_by (set table head line)) l.available (record { head = head; readable = bytes; writable = write } ∷ []),
-            queued-other table head line l.available available-none, taken-other table head line l.popped popped-none, line-new table head line lt) refl
+        rw (
+          map-append (queued_by (set table head line)) l.available (record { head = head; readable = bytes; writable = write } ∷ []),
+          queued-other table head line l.available available-none,
+          taken-other table head line l.popped popped-none,
+          line-new table head line lt,
+        ) refl
 
     count-added : (k : ℕ) → head_count k (lists_after_add head bytes write l) ≡ head_count k l + one (head == k)
     count-added k = omega (arith, count-push (has queued_head k) l.available (record { head = head; readable = bytes; writable = write }))
@@ -88,8 +90,8 @@ module _ (table : List Submitted) (rows : List RowValue) (l : ring.Lists) (t : A
           owned = t.owned;
           chains = t.chains;
           available = All-push (Fits (set table head line)) l.available (record { head = head; readable = bytes; writable = write })
-            (Fits-other table head line l.available available-none t.available)
-            (record { driver = rw new driver; read = rw new read; write = rw new wrote; small = small });
+              (Fits-other table head line l.available available-none t.available)
+              (record { driver = rw new driver; read = rw new read; write = rw new wrote; small = small });
           popped = Fits-other table head line l.popped popped-none t.popped;
           replies = t.replies;
         }

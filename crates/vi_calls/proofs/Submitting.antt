@@ -24,8 +24,8 @@ module _ (p : Inside) (k : IsKept p) where
       let l = lists_or p.ring.lists in
       let free = has-room p.submitted p.rows.items l k.tied p.ring.size k.ring_whole.some few in
       ok-enough r (free_count p.ring.size l) (chain_needs read write)
-        (of-known p.ring.lists (λ l. IsErr r ↔ (free_count p.ring.size l < chain_needs read write)) k.ring_whole.known full)
-        (omega (arith, chain-needs read write, free))
+      (of-known p.ring.lists (λ l. IsErr r ↔ (free_count p.ring.size l < chain_needs read write)) k.ring_whole.known full)
+      (omega (arith, chain-needs read write, free))
 
   module _ (r : ring.RingValue) (head : ℕ) (bytes : List ℕ) (write : ℕ) (line : Submitted) (added : IsAdded head bytes write p.ring r)
       (fresh : (head < p.ring.size) × IfSome p.ring.lists (λ l. head_count head l ≡ 0)) where
@@ -45,7 +45,7 @@ module _ (p : Inside) (k : IsKept p) where
         ≡ with_queued (record { driver = line.driver; line = line.line; read = bytes; write = write }) (seen p)
     seen-submit =
         rw (lists-are r.lists _ known)
-          (submit-is p.submitted p.rows.items (lists_or p.ring.lists) k.tied head bytes write line none within)
+        (submit-is p.submitted p.rows.items (lists_or p.ring.lists) k.tied head bytes write line none within)
 
     pub IsKept-submit : ShowsPopped r → line.driver < 8 → line.read ≡ length bytes → line.write ≡ write → length bytes ≤ 1024 → IsKept (record p { ring = r; queued = p.queued + 1; submitted = set p.submitted head line })
     IsKept-submit shows driver read wrote small =

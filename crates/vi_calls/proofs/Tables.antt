@@ -1,5 +1,5 @@
 -- The table of submitted lines, and a line more in it whose head no chain of a list has.
-use Rattle.std.proofs.Common.{◌≡◌, ◌≢◌, ℕ, ◌<◌, ◌≤◌, List, [], ◌∷◌, ◌++◌, length, map, set, refl, ap, sym, ◌∙◌, arith}
+use Rattle.std.proofs.Common.{◌≡◌, ◌≢◌, ℕ, ◌<◌, List, [], ◌∷◌, length, map, set, refl, ap}
 use Rattle.std.specs.Prelude.{count_by, ◌==◌, if◌then◌else◌}
 use Rattle.std.specs.List.{AllByRecursion}
 use Rattle.std.proofs.lemmas.List.{get_or-set_same, get_or-set_other}
@@ -8,7 +8,6 @@ use Rattle.vi_vring.specs.Moves.{without_popped, without_used}
 use Rattle.vi_calls.specs.declared.calls.Submitted.{Submitted}
 use Rattle.vi_calls.specs.Inner.{line_at, no_line, queued_by, taken_by, Fits}
 use Rattle.vi_calls.proofs.Counting.{has, without, absent-head}
-
 
 abbrev pub queued_head : ring.Queued → ℕ
 queued_head q = q.head

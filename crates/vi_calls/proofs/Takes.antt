@@ -1,9 +1,7 @@
 -- The first available chain is popped.
-use Rattle.std.proofs.Common.{◌≡◌, ◌≢◌, ℕ, ◌+◌, ◌<◌, ◌≤◌, Bool, true, false, List, [], ◌∷◌, ◌++◌, length, map, Option, Some, None, IfSome, refl, ap, sym, ◌∙◌, arith}
+use Rattle.std.proofs.Common.{◌≡◌, ℕ, ◌+◌, true, List, [], ◌∷◌, ◌++◌, length, map, Some, IfSome, refl, ◌∙◌, arith}
 use Rattle.std.specs.Prelude.{count_by, find, slice_get, ◌==◌}
 use Rattle.std.specs.Option.{option_map}
-use Rattle.std.specs.List.{AllByRecursion}
-use Rattle.std.proofs.lemmas.List.{map-append}
 use Rattle.std.proofs.lemmas.List.Folds.{find-append}
 use Rattle.vi_history.specs.Requests.{reading}
 use Rattle.vi_history.specs.declared.reading.Reading.{Reading}
@@ -12,15 +10,13 @@ use Rattle.vi_vring.specs.declared.chain.Break.{Break}
 use Rattle.vi_vring.specs.declared.chain.Chain.{Chain as ChainData}
 use Rattle.vi_vring.specs.declared.chain.Popped.TheVariants.{Chain, Empty, Broken}
 use Rattle.vi_vring.specs.Moves.{lists_after_pop, first_popped, head_count, popped_bytes}
-use Rattle.vi_model.specs.Control.{Started}
 use Rattle.vi_model.specs.Starts.{queued_call}
 use Rattle.vi_model.specs.declared.task.Task.TheVariants.{Reads}
 use Rattle.vi_calls.specs.declared.calls.Submitted.{Submitted}
-use Rattle.vi_calls.specs.Value.{Taken, has_head}
-use Rattle.vi_calls.specs.Moves.{taken_first}
+use Rattle.vi_calls.specs.Value.{has_head}
 use Rattle.vi_calls.specs.Rows.{RowValue}
-use Rattle.vi_calls.specs.Inner.{line_at, shown, queued_by, taken_by, Fits, AreTied}
-use Rattle.vi_calls.proofs.Counting.{one, count-cons, count-push, one-same, is-same, All-push, has, find-absent}
+use Rattle.vi_calls.specs.Inner.{line_at, queued_by, taken_by, Fits, AreTied}
+use Rattle.vi_calls.proofs.Counting.{count-cons, count-push, one-same, is-same, All-push, has, find-absent}
 use Rattle.vi_calls.proofs.Tables.{queued_head}
 
 -- nothing is popped where no chain is available
@@ -67,37 +63,9 @@ module _ (table : List Submitted) (rows : List RowValue) (popped : List ring.Que
     replies = t.replies;
   }
 
-  pub take-none : (available : List ring.Queued) → available ≡ []
-      → shown table rows (lists_after_pop (lists available popped used)) ≡ shown table rows (lists available popped used)
-  take-none [] e = refl
-  take-none (q ∷ rest) e = absurd (cc)
-
   module _ (chain : ChainData) where
-    pub take-is : (available : List ring.Queued) → Chain chain ≡ first_popped available
-        → shown table rows (lists_after_pop (lists available popped used)) ≡ taken_first chain.head (map (queued_by table) available) (shown table rows (lists available popped used))
-    take-is [] e = absurd (cc)
-    take-is (q ∷ rest) e =
-        let head : chain.head ≡ q.head = cc in
-        rw (head, map-append (taken_by table) popped (q ∷ [])) refl
-
-    pub take-some : (available : List ring.Queued) → Chain chain ≡ first_popped available → map (queued_by table) available ≡ [] → ⊥
-    take-some [] e none = absurd (cc)
-    take-some (q ∷ rest) e none = absurd (cc)
-
-    pub take-small : (available : List ring.Queued) → Chain chain ≡ first_popped available → AllByRecursion (Fits table) available → chain.read ≤ 1024
-    take-small [] e fits = absurd (cc)
-    take-small (q ∷ rest) e fits = let read : chain.read ≡ length q.readable = cc in omega (arith, read, fits.0.small)
-
     alone : (q : ring.Queued) (rest : List ring.Queued) → AreTied table rows (lists (q ∷ rest) popped used) → count_by (has queued_head q.head) popped ≡ 0
     alone q rest t = omega (arith, t.once q.head, count-cons (has queued_head q.head) q rest, one-same q.head)
-
-    pub take-fresh : (available : List ring.Queued) → Chain chain ≡ first_popped available → AreTied table rows (lists available popped used)
-        → (chain.head < 256) × (count_by (has_head chain.head) (map (taken_by table) popped) ≡ 0)
-    take-fresh [] e t = absurd (cc)
-    take-fresh (q ∷ rest) e t =
-        let head : chain.head ≡ q.head = cc in
-        let none = alone q rest t in
-        rw head (t.below q.head (omega (arith, count-cons (has queued_head q.head) q rest, one-same q.head)), count-taken table q.head popped ∙ none)
 
     pub take-asks : (available : List ring.Queued) (asked : Reading) → Chain chain ≡ first_popped available → AreTied table rows (lists available popped used)
         → IfSome (popped_bytes chain.head (lists_after_pop (lists available popped used))) (λ bytes. asked ≡ reading bytes chain.write)
@@ -108,6 +76,6 @@ module _ (table : List Submitted) (rows : List RowValue) (popped : List ring.Que
         let write : chain.write ≡ q.writable = cc in
         let self : (q.head == q.head) ≡ true = is-same q.head in
         let found : find (has queued_head q.head) (popped ++ q ∷ []) ≡ Some q =
-          find-append (has queued_head q.head) popped (q ∷ []) ∙ (rw (find-absent queued_head q.head popped (alone q rest t), self) refl) in
+        find-append (has queued_head q.head) popped (q ∷ []) ∙ (rw (find-absent queued_head q.head popped (alone q rest t), self) refl) in
         let told = rw (head, write, found) at says in
         rw (head, told) refl

@@ -1,6 +1,6 @@
 -- The fields that keep the open calls, with the first request taken.
-use Rattle.std.proofs.Common.{◌≡◌, ℕ, ◌+◌, ◌-◌, ◌<◌, ◌≤◌, List, [], length, Option, Some, IfSome, ◌⊎◌, inl, inr, refl, ap, sym, ◌∙◌, arith}
-use Rattle.std.specs.Prelude.{count_by, slice_get}
+use Rattle.std.proofs.Common.{◌≡◌, ℕ, ◌-◌, [], length, Some, IfSome, ◌⊎◌, inl, inr, ap, sym, ◌∙◌, arith}
+use Rattle.std.specs.Prelude.{slice_get}
 use Rattle.std.specs.Option.{option_map}
 use Rattle.vi_history.specs.Requests.{reading}
 use Rattle.vi_history.specs.declared.reading.Reading.{Reading}
@@ -13,10 +13,8 @@ use Rattle.vi_vring.specs.Moves.{ShowsPopped, lists_after_pop, first_popped, pop
 use Rattle.vi_model.specs.Starts.{queued_call}
 use Rattle.vi_model.specs.declared.task.Task.TheVariants.{Reads}
 use Rattle.vi_calls.specs.declared.calls.Calls.TheInside.{Inside}
-use Rattle.vi_calls.specs.Value.{has_head}
-use Rattle.vi_calls.specs.Moves.{taken_first}
 use Rattle.vi_calls.specs.Inner.{lists_or, line_at, seen, IsKept}
-use Rattle.vi_calls.proofs.Takes.{AreTied-pop, after-none, take-none, take-empty, take-unbroken, take-count, take-is, take-some, take-small, take-fresh, take-asks}
+use Rattle.vi_calls.proofs.Takes.{AreTied-pop, after-none, take-empty, take-unbroken, take-count, take-asks}
 use Rattle.vi_calls.proofs.Known.{of-known, known-after, still-known, lists-are}
 
 module _ (p : Inside) (k : IsKept p) where
@@ -54,12 +52,6 @@ module _ (p : Inside) (k : IsKept p) where
           go (inl empty) is = take-empty l.available (sym empty ∙ is)
           go (inr broken) is = absurd (take-unbroken l.available broken.0 (sym broken.1 ∙ is))
 
-      pub queue-none : (seen p).queue ≡ []
-      queue-none = rw is-empty refl
-
-      pub seen-none : seen (record p { ring = r }) ≡ seen p
-      seen-none = rw (lists-are r.lists _ known) (take-none p.submitted p.rows.items l.popped l.used l.available is-empty)
-
       pub IsKept-none : ShowsPopped r → IsKept (record p { ring = r })
       IsKept-none shows = kept shows p.queued (k.count ∙ sym (ap (λ (l : ring.Lists). length l.available) (after-none l.popped l.used l.available is-empty)))
 
@@ -67,21 +59,6 @@ module _ (p : Inside) (k : IsKept p) where
     module _ (chain : ChainData) (first : IfSome p.ring.lists (λ l. Chain chain ≡ first_popped l.available)) where
       is-first : Chain chain ≡ first_popped l.available
       is-first = of-known p.ring.lists (λ l. Chain chain ≡ first_popped l.available) k.ring_whole.known first
-
-      pub pop-some : 1 ≤ p.queued
-      pop-some = omega (arith, k.count, take-count l.popped l.used chain l.available is-first)
-
-      pub pop-small : chain.read ≤ 1024
-      pop-small = take-small p.submitted p.rows.items l.popped l.used chain l.available is-first k.tied.available
-
-      pub pop-fresh : (chain.head < 256) × (count_by (has_head chain.head) (seen p).taken ≡ 0)
-      pop-fresh = take-fresh p.submitted p.rows.items l.popped l.used chain l.available is-first k.tied
-
-      pub queue-some : (seen p).queue ≡ [] → ⊥
-      queue-some = take-some p.submitted p.rows.items l.popped l.used chain l.available is-first
-
-      pub seen-taken : seen (record p { ring = r; queued = p.queued - 1 }) ≡ taken_first chain.head (seen p).queue (seen p)
-      seen-taken = rw (lists-are r.lists _ known) (take-is p.submitted p.rows.items l.popped l.used chain l.available is-first)
 
       pub IsKept-taken : ShowsPopped r → IsKept (record p { ring = r; queued = p.queued - 1 })
       IsKept-taken shows = kept shows (p.queued - 1) (omega (arith, k.count, take-count l.popped l.used chain l.available is-first))

@@ -1,5 +1,5 @@
 -- A taken chain is answered: it is used, and its driver has an answered line more.
-use Rattle.std.proofs.Common.{◌≡◌, ◌≢◌, ℕ, ◌+◌, ◌<◌, ◌≤◌, Bool, true, false, not, List, [], ◌∷◌, ◌++◌, length, map, get_or, set, Option, Some, None, refl, ap, sym, subst, ◌∙◌, arith, length-append}
+use Rattle.std.proofs.Common.{◌≡◌, ℕ, ◌<◌, ◌≤◌, Bool, true, false, not, List, [], ◌∷◌, ◌++◌, length, map, get_or, set, Option, Some, None, refl, ap, sym, subst, ◌∙◌, arith, length-append}
 use Rattle.std.specs.Prelude.{count_by, sum_by, find, filter, ◌==◌, if◌then◌else◌}
 use Rattle.std.specs.Option.{option_map, option_or}
 use Rattle.std.specs.List.{AllByRecursion}
@@ -8,17 +8,16 @@ use Rattle.std.proofs.lemmas.List.Folds.{find-append}
 use Rattle.vi_vring.specs.Values as ring
 use Rattle.vi_vring.specs.declared.chain.Chain.{Chain as ChainData}
 use Rattle.vi_vring.specs.Moves.{lists_after_push, head_count, without_popped}
-use Rattle.vi_model.specs.Control.{no_port}
 use Rattle.vi_calls.specs.declared.row.Token.{Token}
 use Rattle.vi_calls.specs.declared.calls.Submitted.{Submitted}
 use Rattle.vi_calls.specs.Replies.{answer_of, AreAnswer}
-use Rattle.vi_calls.specs.Value.{Taken, has_head, port_at, taken_with}
+use Rattle.vi_calls.specs.Value.{has_head, taken_with}
 use Rattle.vi_calls.specs.Moves.{answered_chain}
 use Rattle.vi_calls.specs.Rows.{RowValue, added, is_in, is_in_chain}
-use Rattle.vi_calls.specs.Inner.{line_at, shown, queued_by, taken_by, answered_by, answer_in, bytes_of, bytes_or, port_by, tokens_with, chains_in, Fits, HasAnswer, AreTied}
-use Rattle.vi_calls.proofs.Counting.{one, count-cons, count-push, one-same, is-same, is-other, All-push, All-without, has, without, find-absent, find-All, map-filter, without-filter, count-without}
+use Rattle.vi_calls.specs.Inner.{line_at, shown, taken_by, answered_by, bytes_of, bytes_or, port_by, tokens_with, chains_in, Fits, HasAnswer, AreTied}
+use Rattle.vi_calls.proofs.Counting.{count-push, is-same, is-other, All-push, All-without, has, without, find-absent, find-All, map-filter, without-filter, count-without}
 use Rattle.vi_calls.proofs.Tables.{queued_head, used_head, popped-without}
-use Rattle.vi_calls.proofs.Ports.{Agree, tokens-same, port-same, ports-same, row-below, sum-row, port-row}
+use Rattle.vi_calls.proofs.Ports.{Agree, tokens-same, ports-same, row-below, sum-row, port-row}
 
 -- a taken chain is found as its popped one is
 pub taken-found : (table : List Submitted) (head : ℕ) (qs : List ring.Queued) → find (has_head head) (map (taken_by table) qs) ≡ option_map (taken_by table) (find (has queued_head head) qs)
@@ -81,12 +80,21 @@ module _ (table : List Submitted) (rows : List RowValue) (l : ring.Lists) (t : A
   write-is =
       let known : taken_with chain.head (shown table rows l) ≡ Some (taken_by table q) = taken-found table chain.head l.popped ∙ ap (option_map (taken_by table)) found in
       let left : map (taken_by table) (without_popped chain.head l.popped) ≡ filter (λ x. not (has_head chain.head x)) (map (taken_by table) l.popped) =
-        ap (map (taken_by table)) (popped-without chain.head l.popped ∙ without-filter queued_head chain.head l.popped (omega (arith, t.once chain.head)))
-        ∙ sym (map-filter (taken_by table) (λ x. not (has_head chain.head x)) l.popped) in
+      ap (map (taken_by table)) (popped-without chain.head l.popped ∙ without-filter queued_head chain.head l.popped (omega (arith, t.once chain.head)))
+      ∙ sym (map-filter (taken_by table) (λ x. not (has_head chain.head x)) l.popped) in
       let others = ports-same chain.head (l.used ++ used ∷ []) l.used agree rows rows-none in
       let mine = tokens-same chain.head (l.used ++ used ∷ []) l.used agree row.answered row-none in
-      rw (known, q-head, left, map-set (port_by (l.used ++ used ∷ [])) rows line.driver (added token row), others,
-        map-append (answered_by (l.used ++ used ∷ [])) row.answered (token ∷ []), mine, bytes-push l.used used used-none, port-row table rows l line.driver row lt is) refl
+      rw (
+        known,
+        q-head,
+        left,
+        map-set (port_by (l.used ++ used ∷ [])) rows line.driver (added token row),
+        others,
+        map-append (answered_by (l.used ++ used ∷ [])) row.answered (token ∷ []),
+        mine,
+        bytes-push l.used used used-none,
+        port-row table rows l line.driver row lt is,
+      ) refl
 
   counts : (k : ℕ) → head_count k (lists_after_push chain bytes l) ≡ head_count k l
   counts k =

@@ -1,6 +1,6 @@
 -- The fields that keep the open calls, with a taken chain answered.
-use Rattle.std.proofs.Common.{◌≡◌, ℕ, ◌<◌, ◌≤◌, Bool, true, false, List, [], ◌∷◌, length, set, get_or, Option, Some, None, IfSome, IsTrue, refl, ap, sym, subst, ◌∙◌, length-set, arith}
-use Rattle.std.specs.Prelude.{count_by, find, is_some, ◌==◌, ◌||◌, if◌then◌else◌}
+use Rattle.std.proofs.Common.{◌≡◌, ℕ, ◌<◌, ◌≤◌, Bool, true, false, List, [], ◌∷◌, length, get_or, Option, Some, None, IfSome, IsTrue, refl, ap, sym, subst, ◌∙◌, length-set, arith}
+use Rattle.std.specs.Prelude.{count_by, find, is_some, ◌||◌, if◌then◌else◌}
 use Rattle.std.specs.Option.{option_map}
 use Rattle.std.specs.List.{list_any, All}
 use Rattle.std.specs.Vec.{with_item}
@@ -9,7 +9,6 @@ use Rattle.std.proofs.lemmas.List.Elements.{recursion_from_All}
 use Rattle.vi_vring.specs.Values as ring
 use Rattle.vi_vring.specs.declared.chain.Chain.{Chain as ChainData}
 use Rattle.vi_vring.specs.Moves.{ShowsPopped, ShowsChain, IsOut, is_popped, chain_of, ring_after_push, lists_after_push}
-use Rattle.vi_calls.specs.declared.row.Token.{Token}
 use Rattle.vi_calls.specs.declared.calls.Submitted.{Submitted}
 use Rattle.vi_calls.specs.declared.calls.Calls.TheInside.{Inside}
 use Rattle.vi_calls.specs.Replies.{answer_of, AreAnswer}

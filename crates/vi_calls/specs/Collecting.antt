@@ -1,5 +1,5 @@
 -- A driver collects the answered line of the lowest number.
-use Rattle.std.specs.Prelude.{◌≡◌, ℕ, ◌≤◌, if◌then◌else◌, List, ◌++◌, length, drop, Option, Some, None}
+use Rattle.std.specs.Prelude.{ℕ, ◌≤◌, if◌then◌else◌, List, ◌++◌, length, drop, Option, Some, None}
 use Rattle.vi_model.specs.Control.{Answered, Port}
 use Rattle.vi_model.specs.Drivers.{first_answer, other_answers}
 use Rattle.vi_model.specs.Held.{count_answers}

@@ -5,3 +5,5 @@ pub mod Collecting
 pub mod Shown
 pub mod Rows
 pub mod Inner
+pub mod Laws
+pub mod Sound

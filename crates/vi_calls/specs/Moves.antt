@@ -1,5 +1,5 @@
 -- What each call does to the drivers' open calls.
-use Rattle.std.specs.Prelude.{◌≡◌, ℕ, zero, ◌<◌, not, Bool, List, [], ◌∷◌, ◌++◌, get_or, set, replicate, filter, count_by, find, is_some, Option, Some, None}
+use Rattle.std.specs.Prelude.{◌≡◌, ℕ, ◌<◌, not, Bool, List, [], ◌∷◌, ◌++◌, set, replicate, filter, count_by, find, is_some, Option, Some, None}
 use Rattle.std.specs.List.{range_with_len}
 use Rattle.vi_history.specs.Replies.{Answer}
 use Rattle.vi_model.specs.Control.{Queued, Setting, Port, Started, driver_count, no_port}

@@ -9,6 +9,7 @@ ghost use Rattle.vi_calls.specs.Value.{port_at, taken_with, open_count};
 ghost use Rattle.vi_calls.specs.Moves.{no_calls, with_queued, left, handed_out, has_setting, first_setting, taken_once, request_call, IsFresh, answered, answered_chain, with_posted};
 ghost use Rattle.vi_calls.specs.Collecting.{AreAnsweredOnce, first_of, collected_as, collected_into, after_collect};
 ghost use Rattle.vi_calls.specs.Shown.{ShowsCalls};
+ghost use Rattle.vi_calls.specs.Sound.{AreSound};
 
 use crate::chains::{MOST_BYTES, reading};
 use crate::reply::{Reply, probed, tail};
@@ -160,7 +161,8 @@ impl Calls {
 
     /// Whether no request is in the queue.
     pub fn is_empty(&self) -> bool
-        ensures { IsTrue result ↔ (self.now.queue ≡ []) }
+        ensures empty { IsTrue result ↔ (self.now.queue ≡ []) }
+        ensures sound { AreSound self.now }
     {
         self.queued == 0
     }
@@ -171,6 +173,7 @@ impl Calls {
         ensures none { IsNone result ↔ (self.old.queue ≡ []) }
         ensures taken { self.new ≡ taken_once result self.old }
         ensures fresh { IfSome result (IsFresh self.old) }
+        ensures driver { IfSome result (λ r. r.driver < 8) }
     {
         let chain = match self.ring.pop() {
             Popped::Chain(chain) => chain,
@@ -270,7 +273,8 @@ impl Calls {
     /// How many of its first lines are all finished, as the driver last posted it.
     pub fn posted(&self, driver: u8) -> u32
         requires { driver < 8 }
-        ensures { result ≡ (port_at self.now driver).posted }
+        ensures posted { result ≡ (port_at self.now driver).posted }
+        ensures sound { AreSound self.now }
     {
         self.rows[driver as usize].posted()
     }
@@ -279,6 +283,7 @@ impl Calls {
     pub fn queue(&self) -> &Ring
         ensures known { IsTrue (is_some result.now.lists) }
         ensures calls { IfSome result.now.lists (ShowsCalls self.now) }
+        ensures sound { AreSound self.now }
     {
         &self.ring
     }

@@ -4,6 +4,7 @@
 
 mod calls;
 mod chains;
+pub mod laws;
 mod reply;
 mod row;
 

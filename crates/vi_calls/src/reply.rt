@@ -3,10 +3,8 @@ ghost use Rattle.std.specs.Prelude.{◌≡◌, ◌++◌};
 ghost use Rattle.vi_history.specs.Replies.{probed_answer};
 ghost use Rattle.vi_calls.specs.Replies.{AreAnswer, answer_of, tail_bytes};
 
-/// The size of the tail, and of the properties of a PROBE before it.
-pub const TAIL_SIZE: usize = 4;
-
-pub const PROPERTIES_SIZE: usize = 512;
+// The size of the properties of a PROBE.
+const PROPERTIES_SIZE: usize = 512;
 
 /// What the device replies to a request (Virtio 1.2, 5.13.6).
 #[derive(Clone, Copy, Debug, PartialEq, Eq)]

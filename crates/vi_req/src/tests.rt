@@ -1,7 +1,7 @@
 use super::*;
 use std::alloc::Global;
 use std::test::Fail;
-use vi_history::Request;
+use vi_history::{Reading, Request};
 
 // Spaces are for reading.
 fn bytes_of(alloc: Global, text: &str) -> Result<Vec<u8>, Fail> {
@@ -116,6 +116,41 @@ fn refusals(rt: HostRuntime) -> Result<(), Fail> {
         let bytes = bytes_of(rt.alloc(), text)?;
         assert!(rt; bytes.len() <= 72);
         assert_eq!(rt; decode(&bytes), Err(fault), "{text}");
+    }
+    Ok(())
+}
+
+#[test]
+fn readings(rt: HostRuntime) -> Result<(), Fail> {
+    let detach = Request::Detach {
+        domain: 1,
+        endpoint: 7,
+    };
+    let rows = [
+        (
+            "02000000 01000000 07000000 0000000000000000",
+            4,
+            Reading::Asks(detach),
+        ),
+        (
+            "02000000 01000000 07000000 0000000000000000",
+            3,
+            Reading::Silent,
+        ),
+        (
+            "02000000 01000000 07000000 00000000000000",
+            4,
+            Reading::Malformed { probe: false },
+        ),
+        ("05000000 07000000", 516, Reading::Malformed { probe: true }),
+        ("05000000 07000000", 515, Reading::Silent),
+        ("06000000", 4, Reading::Silent),
+        ("", 4, Reading::Silent),
+    ];
+    for (text, write, reading) in rows {
+        let bytes = bytes_of(rt.alloc(), text)?;
+        assert!(rt; bytes.len() <= 72);
+        assert_eq!(rt; read(&bytes, write), reading, "{text}");
     }
     Ok(())
 }

@@ -1,4 +1,3 @@
-use Rattle.std.proofs.Common.{length}
 use Rattle.vi_calls.proofs.Replying.{answer_of-probed, AreAnswer-probed, status-put}
 use Rattle.vi_calls.proofs.reply.probed.Goals as goal
 

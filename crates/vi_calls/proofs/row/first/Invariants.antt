@@ -1,4 +1,4 @@
-use Rattle.std.proofs.Common.{◌≡◌, ◌≤◌, ℕ, drop, length}
+use Rattle.std.proofs.Common.{◌≡◌, ◌≤◌, drop, length}
 use Rattle.vi_calls.specs.Rows.{first_token}
 use Rattle.vi_calls.proofs.row.first.Given as goal
 

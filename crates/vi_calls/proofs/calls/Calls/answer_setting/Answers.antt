@@ -1,4 +1,4 @@
-use Rattle.std.proofs.Common.{◌<◌, length, Some, None}
+use Rattle.std.proofs.Common.{◌<◌, length}
 use Rattle.vi_calls.specs.Inner.{lists_or}
 use Rattle.vi_calls.proofs.Ports.{set-is}
 use Rattle.vi_calls.proofs.calls.Calls.answer_setting.Goals as goal

@@ -1,4 +1,4 @@
-use Rattle.std.proofs.Common.{◌<◌, length, Some, None}
+use Rattle.std.proofs.Common.{◌<◌, length, None}
 use Rattle.vi_calls.specs.Inner.{lists_or}
 use Rattle.vi_calls.proofs.Ports.{left-is}
 use Rattle.vi_calls.proofs.calls.Calls.take_setting.Goals as goal
