@@ -101,6 +101,21 @@ impl Removals {
         }
     }
 
+    /// The id of the endpoint at this place.
+    pub fn id(&self, place: u32) -> u32
+        requires { place < length self.now.ids }
+        ensures { result ≡ get_or self.now.ids place 0 }
+    {
+        self.ids[place as usize]
+    }
+
+    /// The ids of the endpoints by place.
+    pub fn ids(&self) -> &[u32]
+        ensures { result.now ≡ self.now.ids }
+    {
+        self.ids.as_slice()
+    }
+
     /// Whether 8 removals are open, so that none can begin.
     pub fn is_full(&self) -> bool
         ensures full { IsTrue result ↔ (length self.now.opened ≡ 8) }

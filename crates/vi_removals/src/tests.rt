@@ -74,6 +74,7 @@ fn pages_are_closed_for_those_concerned(rt: HostRuntime) {
 #[test]
 fn endpoints_are_named_by_place(rt: HostRuntime) {
     let removals = Removals::new(&[30, 40]);
+    assert!(rt; removals.ids() == [30, 40].as_slice());
     assert_eq!(rt; removals.what_of(&DETACH), What::Endpoint(1));
     assert_eq!(rt; removals.what_of(&Task::Sets(false)), What::BypassOff);
     let span = Span {
