@@ -1,0 +1,17 @@
+pub mod Plan
+pub mod Value
+pub mod Rooms
+pub mod Asked
+pub mod Work
+pub mod Ties
+pub mod Tokens
+pub mod Awaits
+pub mod Started
+pub mod Inner
+pub mod Calls
+pub mod Places
+pub mod Granting
+pub mod Cascade
+pub mod Serving
+pub mod Queue
+pub mod Opening
