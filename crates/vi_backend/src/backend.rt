@@ -105,6 +105,13 @@ impl Backend {
         })
     }
 
+    /// The id of its endpoint.
+    pub fn id(&self) -> u32
+        ensures { result ≡ self.now.id }
+    {
+        self.id
+    }
+
     /// What it wishes to do next: it receives where its miss is open, where it made 16 accesses since it last
     /// received, and where it finished a line that some line awaits and didn't post it; it rests where its lines are
     /// finished; it receives where it didn't find posted what its current line awaits; and else it does its current
