@@ -1,18 +1,16 @@
 -- What may be done with a control in which nothing has happened.
-use Rattle.std.proofs.Common.{◌≡◌, ◌<◌, ◌≤◌, ◌+◌, ℕ, true, false, List, [], ◌∷◌, Option, Some, None, length, get_or, replicate, refl, ap, sym, ◌∙◌, arith}
+use Rattle.std.proofs.Common.{◌≡◌, ℕ, false, List, [], ◌∷◌, Option, Some, None, length, get_or, replicate, refl, ap, sym, ◌∙◌, arith}
 use Rattle.std.proofs.lemmas.Bool.{false≢true}
 use Rattle.vi_bytes.specs.Parts.{IsTransfer}
 use Rattle.vi_history.specs.Requests.{reading}
 use Rattle.vi_script.specs.Valid.{IsValid}
 use Rattle.vi_script.specs.Value.{ScriptValue}
-use Rattle.vi_model.specs.Bounds.{HasStartRoom}
 use Rattle.vi_model.specs.Control.{Queued, Setting, Port, Control, driver_count, no_port, no_lanes, link_of}
 use Rattle.vi_model.specs.Drivers.{left, Chain}
 use Rattle.vi_model.specs.Lanes.{Lanes}
 use Rattle.vi_model.specs.Places.{place_count}
 use Rattle.vi_model.specs.Playable.{HasFields, IsPlayable}
 use Rattle.vi_model.specs.Rooms.{is_map}
-use Rattle.vi_model.specs.Starts.{queued_call}
 use Rattle.vi_model.specs.Worlds.{opening, opening_control}
 use Rattle.vi_model.specs.declared.task.Task.TheVariants.{Reads}
 use Rattle.vi_model.proofs.Laws.{opening_is_sound}

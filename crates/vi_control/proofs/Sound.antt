@@ -1,5 +1,4 @@
 -- A sound world's control has the room that the device's calls ask for.
-use Rattle.std.proofs.Common.{ℕ}
 use Rattle.vi_script.specs.Value.{ScriptValue}
 use Rattle.vi_model.specs.Places.{place_count}
 use Rattle.vi_model.specs.Playable.{IsPlayable}

@@ -1,5 +1,6 @@
 //! What back ends do with the control.
-ghost use Rattle.std.specs.Prelude.{◌≡◌, ◌<◌, length};
+ghost use Rattle.std.specs.Prelude.{◌≡◌, ◌<◌, length, IfSome};
+ghost use Rattle.vi_iotlb.specs.Frames.{IsSendable};
 ghost use Rattle.vi_lanes.specs.Frames.{next_frame, said};
 ghost use Rattle.vi_model.specs.Control.{link_of, lanes_of};
 ghost use Rattle.vi_control.specs.Asked.{asked_at};
@@ -64,6 +65,7 @@ impl Control {
         requires { place < length self.old.plan.ids }
         ensures frame { result ≡ next_frame (lanes_of (link_of self.old.state place)) }
         ensures rest { self.new ≡ with_state (received place self.old.state) self.old }
+        ensures sendable { IfSome result IsSendable }
     {
         self.lanes.receive(place)
     }
