@@ -1,6 +1,5 @@
 -- What is known of a world from outside: its script, how many rounds it has made, and whether its lines are finished.
-use Rattle.std.specs.Prelude.{◌≡◌, ◌==◌, ℕ, ◌+◌, ◌*◌, ◌-◌, ◌^◌, Bool, true, false, ◌&&◌, nat_le, min, List, length, Option, Some, None, MatchOption}
-use Rattle.vi_bytes.specs.declared.region.EndpointSetup.{EndpointSetup}
+use Rattle.std.specs.Prelude.{◌≡◌, ℕ, ◌+◌, ◌*◌, ◌-◌, ◌^◌, Bool, true, false, ◌&&◌, nat_le, min, List, length, Option, Some, None}
 use Rattle.vi_history.specs.declared.call.Caller.TheVariants.{Driver, Back}
 use Rattle.vi_history.specs.declared.entry.Entry.{Entry}
 use Rattle.vi_history.specs.declared.outcome.Outcome.{Outcome}

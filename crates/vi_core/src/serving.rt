@@ -1,0 +1,45 @@
+//! The device's turn.
+ghost use Rattle.std.specs.Prelude.{◌≡◌};
+ghost use Rattle.vi_core.specs.declared.turned.Turned.TheVariants.{Moved};
+ghost use Rattle.vi_control.specs.Rooms.{HasRoom};
+ghost use Rattle.vi_core.specs.DeviceTurns.{IsDevicesTurn};
+
+use crate::Turned;
+use vi_control::{Control, Work};
+use vi_history::Mark;
+
+/// What a turn of the device did, and the mark of the entry that it made, if it made one.
+#[derive(Clone, Copy, Debug, PartialEq, Eq)]
+pub struct Served {
+    pub turned: Turned,
+    pub mark: Option<Mark>,
+}
+
+/// The device's turn: the first work that there is, or it waits. The entry's bytes are the control's `answered`. It takes
+/// no memory.
+pub fn serve(control: &mut Control) -> Served
+    requires { HasRoom control.old }
+    ensures turn { IsDevicesTurn control.old control.new result }
+    ensures plan { control.new.plan ≡ control.old.plan }
+{
+    match control.next() {
+        Work::Idle => Served {
+            turned: Turned::Waiting,
+            mark: None,
+        },
+        Work::Finish => moved(Some(control.finish())),
+        Work::Parked(_) => moved(control.serve()),
+        Work::Frame(_) => moved(control.serve()),
+        Work::Request => moved(control.start()),
+        Work::Bypass(_) => moved(control.start()),
+    }
+}
+
+fn moved(mark: Option<Mark>) -> Served
+    ensures { result ≡ record { turned = Moved; mark = mark } }
+{
+    Served {
+        turned: Turned::Moved,
+        mark,
+    }
+}
