@@ -54,13 +54,13 @@ make_form (rounds ∷ more ∷ words) = tt
 
 sim_form : (words : List (List ℕ)) → IsForm (sim_of words)
 sim_form [] = tt
-sim_form (seed ∷ []) = tt
-sim_form (seed ∷ turns ∷ []) = go (word_is_zero seed && word_is_zero turns)
+sim_form (generator_seed ∷ []) = tt
+sim_form (generator_seed ∷ turns ∷ []) = go (word_is_zero generator_seed && word_is_zero turns)
   where
     go : (b : Bool) → IsForm (cond b (Some (Script Sim)) None)
     go true = tt
     go false = tt
-sim_form (seed ∷ turns ∷ more ∷ words) = tt
+sim_form (generator_seed ∷ turns ∷ more ∷ words) = tt
 
 alone_form : (task : Task) (words : List (List ℕ)) → IsForm (alone task words)
 alone_form task [] = tt

@@ -19,7 +19,7 @@ word_is_zero word = holds_zero (number_of word)
 
 -- `sim 0 0`: the words behind `sim`
 abbrev pub sim_of : List (List ℕ) → Option Command
-sim_of (seed ∷ turns ∷ []) = if word_is_zero seed && word_is_zero turns then Some (Script Sim) else None
+sim_of (generator_seed ∷ turns ∷ []) = if word_is_zero generator_seed && word_is_zero turns then Some (Script Sim) else None
 sim_of words = None
 
 -- a load script has 1 to 400 rounds

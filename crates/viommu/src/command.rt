@@ -56,7 +56,9 @@ fn sim_of(behind: &[String]) -> Option<Command>
     ensures { result ≡ sim_of (map string_bytes behind.now) }
 {
     match behind {
-        [seed, turns] if is_zero(seed) && is_zero(turns) => Some(Command::Script(Task::Sim)),
+        [generator_seed, turns] if is_zero(generator_seed) && is_zero(turns) => Some(
+            Command::Script(Task::Sim),
+        ),
         _ => None,
     }
 }
