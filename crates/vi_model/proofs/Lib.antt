@@ -59,5 +59,5 @@ pub mod Progress
 pub mod Rounds
 pub mod Finishes
 pub mod Tested
-mod OpenCalls
+pub mod OpenCalls
 pub mod Playable
