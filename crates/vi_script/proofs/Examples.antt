@@ -7,7 +7,6 @@ use Rattle.vi_words.specs.Numbers.{number_of, digits_in, name_number_of, hex_of}
 use Rattle.vi_script.specs.declared.fault.BadKind.{BadKind}
 use Rattle.vi_script.specs.declared.fault.BadKind.TheVariants.{Byte, Word, Late, Number, Hex, Again, Endpoint, Span, Limit, After}
 use Rattle.vi_script.specs.declared.job.Job.TheVariants.{Ask, Read, Write}
-use Rattle.vi_script.specs.Built.{not_built}
 use Rattle.vi_script.specs.Forms.{form_of, await_of}
 use Rattle.vi_script.specs.Said.{script_of, setup_of}
 use Rattle.vi_script.specs.Texts.{script, judge, Bad}
@@ -164,12 +163,3 @@ batches = refl
 bytes_of_lines : wrong ((35 ∷ 9 ∷ []) ∷ []) ∷ wrong [] ∷ [] ≡ at 1 Byte ∷ None ∷ []
 unfolding wrong text_of at script lines_of_text words_of number_of digits_in name_number_of hex_of form_of await_of script_of setup_of judge
 bytes_of_lines = refl
-
--- the first line that a first form of the simulator doesn't run
-unbuilt : not_built (text_of (codes "endpoint 7" ∷ codes "# x" ∷ codes "d0 attach 1 7" ∷ codes "b7 read 4095 1" ∷ codes "b7 read 4095 2" ∷ []))
-    ∷ not_built (text_of (codes "endpoint 7" ∷ codes "d0 attach 1 7" ∷ codes "d0 attach 1 7" ∷ []))
-    ∷ not_built (text_of (codes "endpoint 7" ∷ codes "d0 map 1 0 1 0 rw after d1.1" ∷ codes "endpoint 8" ∷ []))
-    ∷ not_built (text_of (codes "queue 16" ∷ [])) ∷ not_built (text_of (codes "d1 probe 7" ∷ [])) ∷ not_built (codes "memory 1") ∷ []
-    ≡ Some 5 ∷ Some 3 ∷ Some 3 ∷ Some 1 ∷ Some 1 ∷ None ∷ []
-unfolding text_of not_built lines_of_text words_of number_of digits_in
-unbuilt = refl

@@ -8,5 +8,4 @@ pub mod FormLemmas
 pub mod ValidLemmas
 pub mod SoundLemmas
 pub mod TransferLemmas
-pub mod BuiltLemmas
 pub mod FieldLemmas

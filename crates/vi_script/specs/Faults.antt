@@ -21,7 +21,6 @@ kind_text bad.Span = codes "span"
 kind_text bad.Limit = codes "limit"
 kind_text bad.After = codes "after"
 kind_text bad.Report = codes "report"
-kind_text bad.NotYet = codes "notyet"
 
 -- the text of a fault: the number of the bad line and the word for what is wrong with it
 abbrev pub fault_text : ScriptFault → List ℕ

@@ -18,5 +18,4 @@ pub mod Tallies
 pub mod Drafts
 pub mod Parsing
 pub mod Valid
-pub mod Built
 pub mod Fields

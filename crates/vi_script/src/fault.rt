@@ -32,8 +32,6 @@ pub enum BadKind {
     After,
     /// No report follows the script.
     Report,
-    /// The line isn't among those that this version reads.
-    NotYet,
 }
 
 impl BadKind {
@@ -53,7 +51,6 @@ impl BadKind {
             BadKind::Limit => "limit",
             BadKind::After => "after",
             BadKind::Report => "report",
-            BadKind::NotYet => "notyet",
         }
     }
 }

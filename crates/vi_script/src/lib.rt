@@ -1,7 +1,6 @@
 //! Scripts: what drivers ask and back ends transfer, who waits for whom, and which histories are in order.
 #![tactic(auto)]
 
-mod built;
 mod deed;
 mod draft;
 mod fault;
@@ -18,7 +17,6 @@ mod tally;
 #[cfg(test)]
 mod tests;
 
-pub use built::not_built;
 pub use fault::{BadKind, ScriptFault};
 pub use job::Job;
 pub use line::{Await, Line, Who};

@@ -1,5 +1,5 @@
-//! The calls of a script, refusals as they are printed, and what a first form of the simulator runs.
-use crate::{BadKind, ScriptFault, not_built, parse};
+//! The calls of a script, and refusals as they are printed.
+use crate::{BadKind, ScriptFault, parse};
 use std::test::Fail;
 use vi_history::Caller;
 
@@ -14,8 +14,6 @@ fn lines_have_calls(rt: HostRuntime) -> Result<(), Fail> {
     assert!(rt; script.line(Caller::Back(7), 1).is_some());
     assert!(rt; script.call(alloc, Caller::Back(7), 1, 1)?.is_some());
     assert!(rt; script.call(alloc, Caller::Back(7), 1, 2)?.is_none());
-    assert_eq!(rt; not_built(text), Some(2));
-    assert_eq!(rt; not_built(b"endpoint 7\n# x\nb7 read 4095 1"), None);
     Ok(())
 }
 
