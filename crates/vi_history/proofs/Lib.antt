@@ -1,1 +1,4 @@
 mod Examples
+mod LogsKeeping
+pub mod LogsMerging
+pub mod LogsPlacing
