@@ -173,7 +173,8 @@ impl Backend {
         self.asking || self.since >= MOST_ACCESSES || self.owes()
     }
 
-    fn is_finished(&self) -> bool
+    /// Whether all its lines are finished.
+    pub fn is_finished(&self) -> bool
         ensures { result ≡ is_finished self.now }
     {
         self.finished as usize >= self.lines.len()
@@ -294,7 +295,8 @@ impl Backend {
         self.told = self.finished;
     }
 
-    /// Does its current part on the page, which is the one that it wishes to access.
+    /// Does its current part on the page, which is the one that it wishes to access. The entry's bytes stand there
+    /// before and after.
     pub fn access(&mut self, page: &mut Page) -> Done
         requires { IsAccess (shown (own_wish self.old)) }
         ensures page { IfAccess (own_wish self.old)
@@ -306,6 +308,7 @@ impl Backend {
         ensures bytes { IfAccess (own_wish self.old)
             (λ lease a. take result.len (drop result.from page.old) ≡ (own_accessed self.old lease a page.old).entry.bytes) }
         ensures within { result.from + result.len ≤ PAGE }
+        ensures stays { take result.len (drop result.from page.new) ≡ take result.len (drop result.from page.old) }
         ensures own { IsOwn self.new }
     {
         let line = &self.lines[self.finished as usize];

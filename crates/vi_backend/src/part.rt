@@ -105,6 +105,7 @@ pub fn transfer(job: &Job, endpoint: u32, line: u32, part: u32, page: &mut Page)
     ensures bytes { IfSome (access_in (back_call endpoint job.now part))
         (λ a. take result.len (drop result.from page.old) ≡ (entry_of (Caller.Back endpoint) line part (work_answer page.old a.part a.work)).bytes) }
     ensures within { result.from + result.len ≤ PAGE }
+    ensures stays { take result.len (drop result.from page.new) ≡ take result.len (drop result.from page.old) }
 {
     match job {
         Job::Read { iova, len } => {

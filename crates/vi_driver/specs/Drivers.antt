@@ -1,5 +1,5 @@
 -- A driver as contracts see it.
-use Rattle.std.specs.Prelude.{◌≡◌, ◌==◌, ℕ, ◌+◌, ◌-◌, ◌^◌, ◌<◌, ◌≤◌, Bool, true, not, List, take, length, count_by, All, Option, Some, None, slice_get}
+use Rattle.std.specs.Prelude.{◌≡◌, ◌==◌, ℕ, ◌+◌, ◌-◌, ◌^◌, ◌<◌, ◌≤◌, Bool, true, not, ◌&&◌, nat_le, List, take, length, count_by, All, Option, Some, None, slice_get}
 use Rattle.std.specs.List.{list_all}
 use Rattle.vi_script.specs.declared.line.Line.{Line}
 use Rattle.vi_history.specs.declared.call.Caller.TheVariants.{Driver}
@@ -45,6 +45,10 @@ next_parcel d = parcel_in (next_line d)
 -- some line is open
 abbrev pub is_open : Stand → Bool
 is_open d = not (length d.open_lines == 0)
+
+-- all its lines are submitted, and none of them is open
+abbrev pub is_finished : OwnDriver → Bool
+is_finished d = nat_le (length d.lines) d.stand.submitted && not (is_open d.stand)
 
 -- the line is open no longer
 abbrev pub closed : ℕ → Stand → Stand

@@ -3,7 +3,7 @@ ghost use Rattle.std.specs.Prelude.{◌≡◌, ◌==◌, ◌+◌, ◌≤◌, ◌
 ghost use Rattle.std.specs.List.{list_any};
 ghost use Rattle.vi_script.specs.Calls.{lines_of, awaits_in};
 ghost use Rattle.vi_model.specs.Drivers.{finished_first, next_open, no_stand, other_lines};
-ghost use Rattle.vi_driver.specs.Drivers.{IsSubmitted, MaySubmit, own_driver, is_open, next_line, next_parcel, closed};
+ghost use Rattle.vi_driver.specs.Drivers.{IsSubmitted, MaySubmit, own_driver, is_finished, is_open, next_line, next_parcel, closed};
 ghost use Rattle.vi_driver.specs.Parcels.{read_in, write_in, switch_in};
 ghost use Rattle.vi_driver.specs.Wishes.{wish_of, wish_at_end, wish_before};
 
@@ -153,6 +153,13 @@ impl Driver {
     {
         close(&mut self.open, line);
         finished_first(&self.open, self.submitted)
+    }
+
+    /// Whether all its lines are submitted and none of them is open.
+    pub fn is_finished(&self) -> bool
+        ensures { result ≡ is_finished self.now }
+    {
+        self.submitted as usize >= self.lines.len() && !self.open()
     }
 
     /// Whether a call is open.
