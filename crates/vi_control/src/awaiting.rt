@@ -7,10 +7,11 @@ ghost use Rattle.vi_history.specs.declared.reading.Reading.TheVariants.{Asks};
 ghost use Rattle.vi_device.specs.Values.{AreDistinct};
 ghost use Rattle.vi_model.specs.Tasks.{removes, request_removes, reach_between};
 ghost use Rattle.vi_lanes.specs.Value.{lanes_at};
-ghost use Rattle.vi_removals.specs.Takings.{has_id, place_in, IsTaking};
+ghost use Rattle.vi_removals.specs.Takings.{has_id, IsTaking};
 ghost use Rattle.vi_control.specs.Inner.{HasPages};
 ghost use Rattle.vi_control.specs.Awaits.{stands_in_way, awaited_in, must_begin, HasFlags, told_at, told_all};
 
+use crate::ids::place_of;
 use vi_bytes::{Membership, Span};
 use vi_device::Device;
 use vi_grants::Grants;
@@ -20,13 +21,14 @@ use vi_lanes::Lanes;
 use vi_model::Task;
 use vi_removals::Removals;
 use vi_removals::laws::removals_take;
-use vi_shoot::{Waiting, What};
+use vi_shoot::Waiting;
 
 /// Whether the task takes translations away: the bypass field set to off, and an ATTACH that moves its endpoint, a
 /// DETACH or an UNMAP whose status now is OK.
 #[tactic(auto, unfolding(vi_model::specs::Tasks::removes))]
 pub fn removes(device: &Device, removals: &Removals, task: &Task) -> bool
-    requires { map (λ x. x.id) device.now.dev.endpoints ≡ removals.now.ids }
+    requires endpoints { map (λ x. x.id) device.now.dev.endpoints ≡ removals.now.ids }
+    requires few { length removals.now.ids ≤ 16 }
     ensures { result ≡ removes device.now.dev task.now }
 {
     match task {
@@ -37,7 +39,8 @@ pub fn removes(device: &Device, removals: &Removals, task: &Task) -> bool
 }
 
 fn request_removes(device: &Device, removals: &Removals, request: &Request) -> bool
-    requires { map (λ x. x.id) device.now.dev.endpoints ≡ removals.now.ids }
+    requires few { length removals.now.ids ≤ 16 }
+    requires endpoints { map (λ x. x.id) device.now.dev.endpoints ≡ removals.now.ids }
     ensures { result ≡ request_removes device.now.dev request.now }
 {
     let accepted = device.status(request) == OK;
@@ -60,27 +63,13 @@ fn request_removes(device: &Device, removals: &Removals, request: &Request) -> b
 // Whether the endpoint is in the domain.
 fn is_in(device: &Device, removals: &Removals, endpoint: u32, domain: u32) -> bool
     requires endpoints { map (λ x. x.id) device.now.dev.endpoints ≡ removals.now.ids }
+    requires few { length removals.now.ids ≤ 16 }
     requires known { IsTrue (has_id endpoint removals.now.ids) }
     ensures { result ≡ endpoint_is_in domain (endpoint_of device.now.dev endpoint) }
 {
-    match device.membership(place_of(removals, endpoint)) {
+    match device.membership(place_of(removals.ids(), endpoint)) {
         Membership::Member(id) => id == domain,
         Membership::Unattached => false,
-    }
-}
-
-// The place of an endpoint: that from which a DETACH of it takes addresses.
-fn place_of(removals: &Removals, endpoint: u32) -> u32
-    requires { IsTrue (has_id endpoint removals.now.ids) }
-    ensures { Some result ≡ place_in removals.now.ids endpoint }
-{
-    let detach = Request::Detach {
-        domain: 0,
-        endpoint,
-    };
-    match removals.what_of(&Task::Reads(Reading::Asks(detach))) {
-        What::Endpoint(place) => place,
-        What::Unmap { .. } | What::BypassOff => unreachable!(),
     }
 }
 

@@ -2,10 +2,10 @@
 ghost use Rattle.std.specs.Prelude.{◌≡◌, ◌<◌, [], Some, length, is_some, IsTrue};
 ghost use Rattle.vi_script.specs.Value.{ScriptValue};
 ghost use Rattle.vi_model.specs.Control.{link_of};
-ghost use Rattle.vi_model.specs.Device.{device_turn, serve_parked, serve_up};
+ghost use Rattle.vi_model.specs.Device.{serve_parked, serve_up};
 ghost use Rattle.vi_control.specs.Plan.{plan_of};
 ghost use Rattle.vi_control.specs.Rooms.{HasRoom};
-ghost use Rattle.vi_control.specs.Value.{made_by};
+ghost use Rattle.vi_control.specs.Value.{made_by, IsDeviceTurn};
 ghost use Rattle.vi_control.specs.Work.{work_of, Serves};
 
 use crate::Control;
@@ -14,11 +14,12 @@ use vi_history::Mark;
 
 impl Control {
     /// The parked miss of the lowest place whose page isn't closed any more is served, or else the oldest frame of the
-    /// lowest place that has one, an Ack before a Miss. The mark is of an access that faults. Where nothing is to be
-    /// served nothing changes.
+    /// lowest place that has one, an Ack before a Miss: the work that `next` answered. The mark is of an access that
+    /// faults.
     pub fn serve(&mut self) -> Option<Mark>
         requires room { HasRoom self.old }
-        ensures turn { (s : ScriptValue) → plan_of s ≡ self.old.plan → Serves (work_of s self.old.state) → device_turn s self.old.state ≡ Some (made_by self.new result) }
+        requires work { (s : ScriptValue) → plan_of s ≡ self.old.plan → Serves (work_of s self.old.state) }
+        ensures turn { IsDeviceTurn self.old self.new result }
         ensures plan { self.new.plan ≡ self.old.plan }
     {
         self.probed = false;

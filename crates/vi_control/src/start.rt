@@ -5,14 +5,13 @@ ghost use Rattle.std.specs.Option.{option_map};
 ghost use Rattle.vi_script.specs.Value.{ScriptValue};
 ghost use Rattle.vi_model.specs.Removals.{is_ready, first_ready, without_first};
 ghost use Rattle.vi_model.specs.Starts.{tell};
-ghost use Rattle.vi_model.specs.Device.{device_turn};
 ghost use Rattle.vi_lanes.specs.Value.{lanes_at};
 ghost use Rattle.vi_removals.specs.Value.{removals_of, first_free, without_free, ready_of};
 ghost use Rattle.vi_removals.specs.Takings.{IsTaking};
 ghost use Rattle.vi_control.specs.Plan.{plan_of};
 ghost use Rattle.vi_control.specs.Rooms.{HasRoom};
 ghost use Rattle.vi_control.specs.Started.{opened_for, IsNext, HasNone};
-ghost use Rattle.vi_control.specs.Value.{made_by, IsDeviceTurn};
+ghost use Rattle.vi_control.specs.Value.{IsDeviceTurn};
 ghost use Rattle.vi_control.specs.Work.{work_of, Starts};
 
 use crate::Control;
@@ -45,12 +44,13 @@ impl Control {
         )
     }
 
-    /// The next request of the queue is started, or the setting of the lowest driver that left one. A call that takes
-    /// translations away which a back end may keep begins a removal, and then there is no mark; every other is answered.
-    /// With neither a request nor a setting nothing changes.
+    /// The next request of the queue is started, or the setting of the lowest driver that left one: the work that `next`
+    /// answered. A call that takes translations away which a back end may keep begins a removal, and then there is no
+    /// mark; every other is answered.
     pub fn start(&mut self) -> Option<Mark>
         requires room { HasRoom self.old }
-        ensures turn { (s : ScriptValue) → plan_of s ≡ self.old.plan → Starts (work_of s self.old.state) → device_turn s self.old.state ≡ Some (made_by self.new result) }
+        requires work { (s : ScriptValue) → plan_of s ≡ self.old.plan → Starts (work_of s self.old.state) }
+        ensures turn { IsDeviceTurn self.old self.new result }
         ensures plan { self.new.plan ≡ self.old.plan }
     {
         let call = next_call(&mut self.calls)?;

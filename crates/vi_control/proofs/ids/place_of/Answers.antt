@@ -8,3 +8,6 @@ unwrap-requires c = rw (c.position.ensures.place) (is_some-position (λ x. eqb x
 
 pub returns-clause-place : goal.returns-clause-place
 returns-clause-place c = sym (place_found c.args.ids.now c.args.id c.unwrap.result (sym c.position.ensures.place ∙ c.unwrap.ensures))
+
+pub returns-clause-first : goal.returns-clause-first
+returns-clause-first c = sym (sym c.position.ensures.place ∙ c.unwrap.ensures)

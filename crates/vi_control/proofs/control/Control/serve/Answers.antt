@@ -12,21 +12,24 @@ serve_parked-requires-clause-there c =
 pub returns-in-Some-clause-turn : goal.returns-in-Some-clause-turn
 returns-in-Some-clause-turn c =
     let p = c.self.inside in
+    let work = rw (← c.self.view_is) at c.requires.work in
     rw (← c.self.view_is)
-    (λ s e serves. turn_parked s (seen p).state c.in-Some.place serves (first_free_is s p (planned_ids s (seen p).plan e) ∙ (sym c.first_free.ensures.first ∙ c.in-Some.is)) ∙ c.serve_parked.ensures.turn s e)
+    (λ s e. turn_parked s (seen p).state c.in-Some.place (work s e) (first_free_is s p (planned_ids s (seen p).plan e) ∙ (sym c.first_free.ensures.first ∙ c.in-Some.is)) ∙ c.serve_parked.ensures.turn s e)
 
 pub returns-in_err-place-clause-turn : goal.returns-in_err-place-clause-turn
 returns-in_err-place-clause-turn c =
     let p = c.self.inside in
+    let work = rw (← c.self.view_is) at c.requires.work in
     rw (← c.self.view_is)
-    (λ s e serves. absurd (no_turn s (seen p).state serves (first_free_is s p (planned_ids s (seen p).plan e) ∙ (sym c.first_free.ensures.first ∙ c.in_default.is))
+    (λ s e. absurd (no_turn s (seen p).state (work s e) (first_free_is s p (planned_ids s (seen p).plan e) ∙ (sym c.first_free.ensures.first ∙ c.in_default.is))
     (frame_found s p c.endpoints.result None (planned_ids s (seen p).plan e) c.self.invariant c.endpoints.ensures (sym c.first_frame.ensures.first ∙ c.in_err-place.was))))
 
 pub returns-then-has_ack-clause-turn : goal.returns-then-has_ack-clause-turn
 returns-then-has_ack-clause-turn c =
     let p = c.self.inside in
+    let work = rw (← c.self.view_is) at c.requires.work in
     rw (c.serve_ack.ensures, ← c.self.view_is)
-    (λ s e serves. turn_frame s (seen p).state c.in_ok-place.place serves (first_free_is s p (planned_ids s (seen p).plan e) ∙ (sym c.first_free.ensures.first ∙ c.in_default.is))
+    (λ s e. turn_frame s (seen p).state c.in_ok-place.place (work s e) (first_free_is s p (planned_ids s (seen p).plan e) ∙ (sym c.first_free.ensures.first ∙ c.in_default.is))
     (frame_found s p c.endpoints.result (Some c.in_ok-place.place) (planned_ids s (seen p).plan e) c.self.invariant c.endpoints.ensures (sym c.first_frame.ensures.first ∙ c.in_ok-place.was))
     ∙ frame_ack s (seen p).state c.in_ok-place.place (sym c.has_ack.ensures.test ∙ c.if-has_ack.true))
 
@@ -37,7 +40,8 @@ serve_up-requires-clause-there c =
 pub returns-clause-turn : goal.returns-clause-turn
 returns-clause-turn c =
     let p = c.self.inside in
+    let work = rw (← c.self.view_is) at c.requires.work in
     rw (← c.self.view_is)
-    (λ s e serves. turn_frame s (seen p).state c.in_ok-place.place serves (first_free_is s p (planned_ids s (seen p).plan e) ∙ (sym c.first_free.ensures.first ∙ c.in_default.is))
+    (λ s e. turn_frame s (seen p).state c.in_ok-place.place (work s e) (first_free_is s p (planned_ids s (seen p).plan e) ∙ (sym c.first_free.ensures.first ∙ c.in_default.is))
     (frame_found s p c.endpoints.result (Some c.in_ok-place.place) (planned_ids s (seen p).plan e) c.self.invariant c.endpoints.ensures (sym c.first_frame.ensures.first ∙ c.in_ok-place.was))
     ∙ (frame_up s (seen p).state c.in_ok-place.place (sym c.has_ack.ensures.test ∙ c.if-has_ack.false) ∙ c.serve_up.ensures.turn s e))

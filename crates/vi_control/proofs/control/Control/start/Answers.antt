@@ -8,10 +8,10 @@ use Rattle.vi_control.proofs.StartTurns.{nothing-starts, answer-turn, begin-turn
 use Rattle.vi_control.proofs.control.Control.start.Goals as goal
 
 pub returns-in_err-call-clause-turn : goal.returns-in_err-call-clause-turn
-returns-in_err-call-clause-turn c = λ s plan starts.
+returns-in_err-call-clause-turn c = λ s plan.
     let p = c.self.inside in
     let none = c.in_err-call.ensures.none in
-    let starts' = rw (← c.self.view_is) at starts in
+    let starts' = rw (← c.self.view_is) at (c.requires.work s plan) in
     absurd (nothing-starts s _ none.queue none.none starts')
 
 pub answer-mark-requires-clause-device : goal.answer-mark-requires-clause-device
@@ -38,10 +38,10 @@ invariant_of-self-in-None c =
     (tied-answered p.calls c.next_call.new.calls p.removals.opened c.in_ok-call.call c.self.invariant.tied next)
 
 pub returns-in-None-clause-turn : goal.returns-in-None-clause-turn
-returns-in-None-clause-turn c = λ s plan starts.
+returns-in-None-clause-turn c = λ s plan.
     let p = c.self.inside in
     let plan' = rw (← c.self.view_is) at plan in
-    let starts' = rw (← c.self.view_is) at starts in
+    let starts' = rw (← c.self.view_is) at (c.requires.work s plan) in
     rw (← c.self.view_is) (answer-turn s p c.next_call.new.calls c.in_ok-call.call c.answer-mark.new.device c.answer-mark.new.calls c.configure.new.config c.answer-mark.new.properties c.answer-mark.new.probed c.answer-mark.result
     plan' starts' c.in_ok-call.ensures.next c.in-None.ensures.none c.answer-mark.ensures.device c.answer-mark.ensures.calls c.answer-mark.ensures.entry)
 
@@ -76,10 +76,10 @@ invariant_of-self-in-Some c =
     kept-begun p c.in_ok-call.call c.next_call.new.calls c.begin.new.removals c.begin.new.lanes (take (length p.removals.ids) c.in-Some.waits.0) c.self.invariant c.in_ok-call.ensures.next c.begin.ensures.removals c.begin.ensures.lanes
 
 pub returns-in-Some-clause-turn : goal.returns-in-Some-clause-turn
-returns-in-Some-clause-turn c = λ s plan starts.
+returns-in-Some-clause-turn c = λ s plan.
     let p = c.self.inside in
     let plan' = rw (← c.self.view_is) at plan in
-    let starts' = rw (← c.self.view_is) at starts in
+    let starts' = rw (← c.self.view_is) at (c.requires.work s plan) in
     let who = flags-first p.device.dev p.removals.ids p.grants c.in_ok-call.call.task c.in-Some.waits c.in-Some.ensures.flags in
     rw (← c.self.view_is) (begin-turn s p c.next_call.new.calls c.in_ok-call.call (take (length p.removals.ids) c.in-Some.waits.0) c.begin.new.removals c.begin.new.lanes
     plan' starts' c.in_ok-call.ensures.next c.in-Some.ensures.some who c.begin.ensures.removals c.begin.ensures.lanes)
