@@ -1,7 +1,15 @@
-pub mod Callers
-pub mod Worlds
 pub mod Turning
 pub mod DriverTurns
 pub mod BackTurns
 pub mod Posting
 pub mod DeviceTurns
+pub mod Histories
+pub mod HistoryRoom
+pub mod Running
+pub mod Parts
+pub mod Moves
+pub mod Inner
+pub mod Opening
+pub mod Outcomes
+pub mod Laws
+pub mod Well

@@ -1,5 +1,5 @@
 //! A back end's turn under control.
-ghost use Rattle.std.specs.Prelude.{◌≡◌, ◌<◌, ◌≤◌, ◌+◌, All, length, Some, IfSome};
+ghost use Rattle.std.specs.Prelude.{◌≡◌, ◌<◌, ◌≤◌, ◌+◌, All, length, take, drop, Some, IfSome};
 ghost use Rattle.std.specs.List.{list_all};
 ghost use Rattle.vi_bytes.specs.declared.span.TheConstants.{PAGE};
 ghost use Rattle.vi_history.specs.declared.call.Caller.TheVariants.{Back};
@@ -50,6 +50,7 @@ pub fn reach(back: &mut Backend, page: &mut Page) -> Done
     ensures turn { IsBacksAccess page.old page.new back.old back.new result }
     ensures own { IsOwn back.new }
     ensures within { result.from + result.len ≤ PAGE }
+    ensures stays { take result.len (drop result.from page.new) ≡ take result.len (drop result.from page.old) }
 {
     vi_backend::laws::wishes_agree();
     vi_backend::laws::accesses_agree();

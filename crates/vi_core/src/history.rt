@@ -1,70 +1,124 @@
 //! The history as it grows.
-ghost use Rattle.std.specs.Prelude.{◌≡◌, [], ◌∷◌, ◌++◌, OnOk, OnErr, IfOk, All};
-ghost use Rattle.vi_history.specs.declared.entry.Entry.{Entry};
-ghost use Rattle.vi_history.specs.Outcomes.{IsEntry, IsWellMade};
+ghost use Rattle.std.specs.Prelude.{◌≡◌, ◌≤◌, length, IfOk};
+ghost use Rattle.vi_core.specs.Histories.{EndsWithin, entry_in, no_entries, pushed};
 
 use std::alloc::{AllocError, Global};
 use std::marker::Model;
-use vi_bytes::Items;
-use vi_history::{Entry, Outcome};
+use vi_bytes::Bytes;
+use vi_history::{Entry, Mark};
 
-/// The entries so far, and how many of them are faults.
+/// An entry, whose bytes stand among those of all entries.
+#[derive(Clone, Copy, Debug)]
+pub struct Kept {
+    pub mark: Mark,
+    /// Where its bytes begin.
+    pub from: usize,
+    /// How many bytes it has.
+    pub len: usize,
+}
+
+/// The entries of a run in order, with room for more: no call but `with_room` and `entries` takes
+/// memory.
 #[derive(Debug, Drop)]
 pub struct History {
-    entries: Vec<Entry>,
-    faults: u32,
+    kept: Vec<Kept>,
+    // The bytes of all entries, one after the other.
+    bytes: Vec<u8>,
+    // For how many more entries, and how many more bytes of theirs, there is room.
+    spare_entries: u32,
+    spare_bytes: u32,
 }
 
 impl Model for History {
-    ghost use Rattle.std.specs.Prelude.{List, All};
-    ghost use Rattle.vi_history.specs.declared.entry.Entry.{Entry};
-    ghost use Rattle.vi_history.specs.Outcomes.{IsEntry};
+    ghost use Rattle.std.specs.Prelude.{◌+◌, ◌≤◌, length, map, All, vec_len, vec_capacity};
+    ghost use Rattle.vi_core.specs.Histories.{HistoryValue, EndsWithin, entry_in};
 
-    ghost Value = { List Entry };
+    ghost Value = { HistoryValue };
 
-    ghost view = { λ h. h.entries.items };
+    ghost view = { λ h. record { entries = map (entry_in h.bytes.items) h.kept.items; spare_entries = h.spare_entries; spare_bytes = h.spare_bytes } };
 
-    ghost invariant = { λ h. All IsEntry h.entries.items };
+    ghost invariant = { λ h. All (EndsWithin (length h.bytes.items)) h.kept.items
+        × (vec_len h.kept + h.spare_entries ≤ vec_capacity h.kept)
+        × (vec_len h.bytes + h.spare_bytes ≤ vec_capacity h.bytes) };
 }
 
 impl History {
-    pub fn new(alloc: Global) -> History
-        ensures { result ≡ [] }
+    /// No entries, with room for so many and for so many bytes of theirs. An error is want of memory.
+    pub fn with_room(alloc: Global, entries: u32, bytes: u32) -> Result<History, AllocError>
+        ensures { IfOk result (λ h. h ≡ no_entries entries bytes) }
     {
-        History {
-            entries: Vec::new(alloc),
-            faults: 0,
-        }
-    }
-
-    /// Adds an entry behind the others. An error is want of memory, and changes nothing.
-    pub fn add(&mut self, entry: Entry) -> Result<(), AllocError>
-        requires { IsEntry entry }
-        ensures ok { OnOk result (self.new ≡ self.old ++ entry ∷ []) }
-        ensures err { OnErr result (self.new ≡ self.old) }
-    {
-        let faulted = entry.mark.kind.is_fault();
-        self.entries.push(entry)?;
-        if faulted {
-            self.faults = self.faults.saturating_add(1);
-        }
-        Ok(())
-    }
-
-    /// The outcome: every fault's record was dropped, since nobody reads records yet. An error is want of
-    /// memory, or of numbers for the entries.
-    pub fn outcome(self, alloc: Global) -> Result<Outcome, AllocError>
-        ensures made { IfOk result (λ o. IsWellMade o) }
-        ensures entries { IfOk result (λ o. o.entries ≡ self) }
-    {
-        if self.entries.len() > u32::MAX as usize {
-            return Err(AllocError);
-        }
-        let History { entries, faults } = self;
-        Ok(Outcome {
-            entries: Items::from_vec(entries),
-            shown: Items::new(alloc),
-            dropped: faults,
+        let kept = Vec::with_capacity(alloc, entries as usize)?;
+        let all = Vec::with_capacity(alloc, bytes as usize)?;
+        Ok(History {
+            kept,
+            bytes: all,
+            spare_entries: entries,
+            spare_bytes: bytes,
         })
+    }
+
+    /// Puts an entry behind the others. There is room for it and for its bytes. Takes no memory.
+    pub fn push(&mut self, mark: Mark, bytes: &[u8])
+        requires entry { 1 ≤ self.old.spare_entries }
+        requires bytes { length bytes.now ≤ self.old.spare_bytes }
+        ensures { self.new ≡ pushed (record { mark = mark; bytes = bytes.now }) self.old }
+    {
+        let from = self.bytes.len();
+        let len = bytes.len();
+        self.bytes.extend_from_slice(bytes).unwrap();
+        self.spare_bytes -= len as u32;
+        self.kept.push_reserved(Kept { mark, from, len });
+        self.spare_entries -= 1;
+    }
+
+    /// A copy of the entries, in order. An error is want of memory.
+    pub fn entries(&self, alloc: Global) -> Result<Vec<Entry>, AllocError>
+        ensures { IfOk result (λ v. v.items ≡ self.now.entries) }
+    {
+        let mut entries = Vec::with_capacity(alloc, self.kept.len())?;
+        for kept in &self.kept {
+            entries.push(copied(alloc, &self.bytes, kept)?)?;
+        }
+        Ok(entries)
+    }
+}
+
+// The entry that is kept so. An error is want of memory.
+fn copied(alloc: Global, bytes: &[u8], kept: &Kept) -> Result<Entry, AllocError>
+    requires { EndsWithin (length bytes.now) kept.now }
+    ensures { IfOk result (λ e. e ≡ entry_in bytes.now kept.now) }
+{
+    let own = &bytes[kept.from..kept.from + kept.len];
+    Ok(Entry {
+        mark: kept.mark,
+        bytes: Bytes::of(alloc, own)?,
+    })
+}
+
+#[cfg(test)]
+mod tests {
+    use super::*;
+    use std::test::Fail;
+    use vi_history::{Caller, Kind};
+
+    #[test]
+    fn keeps_its_entries(rt: HostRuntime) -> Result<(), Fail> {
+        let mark = Mark {
+            caller: Caller::Back(7),
+            line: 1,
+            part: 2,
+            kind: Kind::Read,
+            code: 0,
+        };
+        let mut history = History::with_room(rt.alloc(), 2, 3)?;
+        history.push(mark, b"abc");
+        history.push(Mark { part: 3, ..mark }, b"");
+        let entries = history.entries(rt.alloc())?;
+        assert_eq!(rt; entries.len(), 2);
+        assert_eq!(rt; entries[0].mark, mark);
+        assert_eq!(rt; entries[0].bytes.as_slice(), b"abc".as_slice());
+        assert_eq!(rt; entries[1].mark.part, 3);
+        assert!(rt; entries[1].bytes.is_empty());
+        Ok(())
     }
 }

@@ -1,18 +1,20 @@
-//! The turns of a run's actors. A driver's turn (`drive`), a back end's (`converse` and `reach`), the device's (`serve`)
-//! and the event reader's (`read_event`) are those of the core's model, on one control. `World` is still a first form over
-//! plain lists, of one driver, one back end and the device, which runs what the first scripts say: nothing is claimed of
-//! it but that its calls return and that its outcome has a text.
+//! The core of a run: a driver's turn (`drive`), a back end's (`converse` and `reach`), the device's (`serve`) and the event
+//! reader's (`read_event`) on one control, and the `World` in which they all take turns. Each turn is that of the core's
+//! model, so that every world is sound and its history legal, whatever the order of the turns.
 #![tactic(auto)]
 
-mod back;
 mod conversing;
-mod device;
 mod driving;
 mod history;
-mod memory;
+pub mod laws;
+mod opening;
+mod outcome;
 mod posted;
 mod reader;
+mod room;
 mod serving;
+#[cfg(test)]
+mod tests;
 mod turned;
 mod world;
 

@@ -1,332 +1,232 @@
 //! The world of a script, turn by turn.
-ghost use Rattle.std.specs.Prelude.{◌≡◌, IfOk, IfSome, OnOk};
-ghost use Rattle.vi_history.specs.Outcomes.{IsWellMade, HasBytes};
+ghost use Rattle.std.specs.Prelude.{◌≡◌, ◌==◌, true, IfOk};
+ghost use Rattle.std.specs.List.{list_all, position};
+ghost use Rattle.vi_history.specs.Outcomes.{IsWellMade};
+ghost use Rattle.vi_model.specs.Playable.{IsPlayable};
+ghost use Rattle.vi_model.specs.Rounds.{is_finished};
+ghost use Rattle.vi_model.specs.Turns.{run, wished_page};
+ghost use Rattle.vi_script.specs.Ordered.{IsOrdered};
+ghost use Rattle.vi_script.specs.declared.line.Who.TheVariants as who;
+ghost use Rattle.vi_driver.specs.Drivers as driver;
+ghost use Rattle.vi_backend.specs.Wishes as back;
+ghost use Rattle.vi_backend.specs.Wishes.{own_wish};
+ghost use Rattle.vi_core.specs.Moves.{HasTurned};
+ghost use Rattle.vi_core.specs.Outcomes.{outcome_of};
+ghost use Rattle.vi_core.specs.Running.{history_of, opened};
+ghost use Rattle.vi_core.specs.Well.{IsAnsweredAtOnce, IsWell};
 
-use crate::Turned;
-use crate::back::{Back, Miss};
-use crate::device::Device;
+use crate::conversing::{converse, reach};
+use crate::driving::drive;
 use crate::history::History;
-use crate::memory::Memory;
+use crate::opening::{backs_of, drivers_of, pages_of};
+use crate::outcome::outcome;
+use crate::reader::read_event;
+use crate::room::{byte_room, entry_room};
+use crate::serving::serve;
+use crate::turned::Turned;
 use std::alloc::{AllocError, Global};
-use vi_bytes::{Bytes, PAGE};
-use vi_history::{Caller, Entry, Kind, Mark, Outcome};
-use vi_script::{Await, Job, Script, Who};
+use std::marker::Model;
+use vi_backend::{Backend, Wish};
+use vi_control::Control;
+use vi_driver::Driver;
+use vi_history::Outcome;
+use vi_memory::Page;
+use vi_script::{Script, Who};
 
-/// The driver of the first scripts.
-const DRIVER: Caller = Caller::Driver(0);
-
-/// How far the driver is with its next line.
-#[derive(Clone, Copy, Debug)]
-enum Sent {
-    Not,
-    Queued,
-    Answered,
-}
-
-/// A script's driver, its back end and the device, the memory and the history.
-#[derive(Debug, Drop)]
+/// A script at work: what its actors share, what each of them has, the memory, and the history of their turns. All room is
+/// taken when it is built, and no turn takes memory.
+#[derive(Drop)]
 pub struct World {
     script: Script,
-    device: Device,
-    memory: Memory,
-    back: Back,
-    sent: Sent,
-    finished: u32,
-    rounds: u64,
+    control: Control,
+    // By number.
+    drivers: Vec<Driver>,
+    // In the order of their endpoints' declaration.
+    backs: Vec<Backend>,
+    pages: Vec<Page>,
     history: History,
 }
 
-/// An entry's mark, for the one part of a line.
-fn mark(caller: Caller, line: u32, part: u32, kind: Kind, code: u8) -> Mark
-    ensures { result ≡ record { caller = caller; line = line; part = part; kind = kind; code = code } }
-{
-    Mark {
-        caller,
-        line,
-        part,
-        kind,
-        code,
-    }
-}
+impl Model for World {
+    ghost use Rattle.vi_core.specs.Running.{Running};
 
-/// Whether these lines are finished, where the driver and the back end have finished so many.
-fn are_finished(awaits: &[Await], driver: u32, back: u32) -> bool {
-    awaits.iter().all(|a| match a.caller {
-        Caller::Driver(_) => a.line <= driver,
-        Caller::Back(_) => a.line <= back,
-    })
-}
+    ghost Value = { Running };
 
-/// The page of a transfer's first address and whether it is written, if the job is a transfer.
-fn access_of(job: &Job) -> Option<(u64, bool)> {
-    match job {
-        Job::Read { iova, .. } => Some((iova / PAGE, false)),
-        Job::Write { iova, .. } => Some((iova / PAGE, true)),
-        Job::Ask(_) | Job::Raw { .. } | Job::Bypass(_) => None,
-    }
+    ghost use Rattle.vi_core.specs.Inner.{seen, IsWorld};
+
+    ghost view = { seen };
+
+    ghost invariant = { IsWorld };
 }
 
 impl World {
-    ghost use Rattle.vi_core.specs.Worlds.{script_of, rounds_of, entries_of, is_finished, IsOneTurn, IsOneRound};
-
-    /// The world before the first turn. An error is want of memory.
+    /// The world of a script in which nothing has happened, with room for all that its turns can make. An error is want of
+    /// memory.
     pub fn build(alloc: Global, script: Script) -> Result<World, AllocError>
-        ensures script { IfOk result (λ w. script_of w ≡ script) }
-        ensures rounds { IfOk result (λ w. rounds_of w ≡ 0) }
+        requires { IsPlayable script }
+        ensures { IfOk result (λ w. w ≡ opened script) }
     {
-        let endpoint = script.setup.endpoints.get(0).map(|e| e.id);
-        let pages = script.setup.memory;
-        let memory = Memory::zero(alloc, pages)?;
+        let control = Control::build(alloc, &script)?;
+        let drivers = drivers_of(alloc, &script)?;
+        let backs = backs_of(alloc, &script)?;
+        let pages = pages_of(alloc, script.setup.memory)?;
+        let entries = entry_room(script.lines.as_slice());
+        let bytes = byte_room(script.lines.as_slice());
         Ok(World {
             script,
-            device: Device::new(alloc, endpoint, pages),
-            memory,
-            back: Back::new(endpoint),
-            sent: Sent::Not,
-            finished: 0,
-            rounds: 0,
-            history: History::new(alloc),
+            control,
+            drivers,
+            backs,
+            pages,
+            history: History::with_room(alloc, entries, bytes)?,
         })
     }
 
-    /// One turn of an actor. An error is want of memory.
-    pub fn turn(&mut self, alloc: Global, who: Who) -> Result<Turned, AllocError>
-        ensures { OnOk result (IsOneTurn self.old self.new) }
+    /// One turn of an actor. A driver or a back end that the script doesn't have changes nothing.
+    pub fn turn(&mut self, who: Who) -> Turned
+        ensures turn { HasTurned who self.old self.new result }
+        ensures before { IsWell self.old }
+        ensures after { IsWell self.new }
+        ensures at_once { IsAnsweredAtOnce self.old }
+    {
+        self.keeps();
+        let turned = self.take_turn(who);
+        self.keeps();
+        turned
+    }
+
+    fn take_turn(&mut self, who: Who) -> Turned
+        ensures { HasTurned who self.old self.new result }
     {
         match who {
-            Who::Driver(0) => Ok(self.driver_turn()),
-            Who::Back(_) => self.back_turn(alloc),
-            Who::Device => self.device_turn(alloc),
-            Who::Driver(_) => Ok(Turned::Rest),
-            Who::Events => Ok(Turned::Waiting),
+            Who::Driver(number) => self.driver_turn(number),
+            Who::Back(id) => self.back_turn(id),
+            Who::Device => self.device_turn(),
+            Who::Events => self.reader_turn(),
         }
     }
 
-    /// Turns of these actors in order, which don't count as rounds. An error is want of memory.
-    pub fn run(&mut self, alloc: Global, turns: &[Who]) -> Result<(), AllocError>
-        ensures { OnOk result (IsOneTurn self.old self.new) }
+    // It changes nothing: its clauses are what is so of every world.
+    fn keeps(&self)
+        ensures well { IsWell self.now }
+        ensures at_once { IsAnsweredAtOnce self.now }
+    {
+        let _script = &self.script;
+    }
+
+    /// Turns of these actors in order.
+    pub fn run(&mut self, turns: &[Who])
+        ensures script { self.new.script ≡ self.old.script }
+        ensures world { self.new.world ≡ run self.old.script self.old.world turns.now }
     {
         for who in turns {
-            let _turned = self.turn(alloc, *who)?;
+            self.turn(*who);
         }
-        Ok(())
     }
 
-    /// One round: a turn of the driver, of the back end and of the device. An error is want of memory.
-    pub fn round(&mut self, alloc: Global) -> Result<(), AllocError>
-        ensures { OnOk result (IsOneRound self.old self.new) }
-    {
-        let _driver = self.driver_turn();
-        let _back = self.back_turn(alloc)?;
-        let _device = self.device_turn(alloc)?;
-        self.rounds = self.rounds.saturating_add(1);
-        Ok(())
-    }
-
-    /// Whether the lines of the driver and of the back end are finished.
+    /// Whether every line of every caller is finished.
     pub fn finished(&self) -> bool
-        ensures { result ≡ is_finished self.now }
+        ensures finished { result ≡ is_finished self.now.script self.now.world }
+        ensures playable { IsPlayable self.now.script }
+        ensures well { IsWell self.now }
+        ensures ordered { result ≡ true → IsOrdered self.now.script (history_of self.now) }
     {
-        self.finished >= self.script.count(DRIVER)
-            && match self.back.caller() {
-                Some(caller) => self.back.finished >= self.script.count(caller),
-                None => true,
-            }
+        are_drivers_finished(&self.drivers) && are_backs_finished(&self.backs)
     }
 
-    /// The history of the turns so far. An error is want of memory.
+    /// What the turns have come to. An error is want of memory.
     pub fn outcome(self, alloc: Global) -> Result<Outcome, AllocError>
-        ensures made { IfOk result (λ o. IsWellMade o) }
-        ensures entries { IfOk result (λ o. o.entries ≡ entries_of self) }
+        ensures outcome { IfOk result (λ o. o ≡ outcome_of self.world) }
+        ensures made { IfOk result IsWellMade }
     {
-        self.history.outcome(alloc)
+        outcome(
+            alloc,
+            &self.history,
+            self.control.shown(),
+            self.control.dropped(),
+        )
     }
 
-    fn driver_turn(&mut self) -> Turned
-        ensures { IsOneTurn self.old self.new }
+    fn driver_turn(&mut self, number: u8) -> Turned
+        ensures { HasTurned (who.Driver number) self.old self.new result }
     {
-        match self.sent {
-            Sent::Queued => Turned::Waiting,
-            Sent::Answered => {
-                self.finished = self.finished.saturating_add(1);
-                self.sent = Sent::Not;
+        if number as usize >= self.drivers.len() {
+            return Turned::Rest;
+        }
+        drive(&mut self.drivers[number as usize], &mut self.control)
+    }
+
+    fn back_turn(&mut self, id: u32) -> Turned
+        ensures { HasTurned (who.Back id) self.old self.new result }
+    {
+        vi_backend::laws::wishes_agree();
+        let Some(place) = place_of(&self.backs, id) else {
+            return Turned::Waiting;
+        };
+        match wished_page(&self.backs[place]) {
+            Some(page) => {
+                let bytes = &mut self.pages[page as usize];
+                let done = reach(&mut self.backs[place], bytes);
+                self.history
+                    .push(done.mark, bytes.read(done.from, done.len));
                 Turned::Moved
             }
-            Sent::Not => match self.script.line(DRIVER, self.finished.saturating_add(1)) {
-                None => Turned::Rest,
-                Some(line) => {
-                    if !are_finished(line.awaits.as_slice(), self.finished, self.back.finished) {
-                        return Turned::Waiting;
-                    }
-                    self.sent = Sent::Queued;
-                    Turned::Moved
-                }
-            },
+            None => converse(&mut self.control, place as u32, &mut self.backs[place]),
         }
     }
 
-    fn back_turn(&mut self, alloc: Global) -> Result<Turned, AllocError>
-        ensures { OnOk result (IsOneTurn self.old self.new) }
+    fn device_turn(&mut self) -> Turned
+        ensures { HasTurned who.Device self.old self.new result }
     {
-        match self.back.miss {
-            Miss::Asked => Ok(Turned::Waiting),
-            Miss::Served(lease) => {
-                self.back.keep(lease);
-                self.back.miss = Miss::Closed;
-                Ok(Turned::Moved)
-            }
-            Miss::Faulted => {
-                self.back.end_line();
-                Ok(Turned::Moved)
-            }
-            Miss::Closed => self.transfer_turn(alloc),
+        let served = serve(&mut self.control);
+        if let Some(mark) = served.mark {
+            self.history.push(mark, self.control.answered());
         }
+        served.turned
     }
 
-    /// The back end's turn on its next line, while no miss is open.
-    fn transfer_turn(&mut self, alloc: Global) -> Result<Turned, AllocError>
-        ensures { OnOk result (IsOneTurn self.old self.new) }
+    fn reader_turn(&mut self) -> Turned
+        ensures { HasTurned who.Events self.old self.new result }
     {
-        let Some(caller) = self.back.caller() else {
-            return Ok(Turned::Rest);
-        };
-        let number = self.back.finished.saturating_add(1);
-        let Some(line) = self.script.line(caller, number) else {
-            return Ok(Turned::Rest);
-        };
-        if !are_finished(line.awaits.as_slice(), self.finished, self.back.finished) {
-            return Ok(Turned::Waiting);
-        }
-        let Some((page, write)) = access_of(&line.job) else {
-            return Ok(Turned::Rest);
-        };
-        let Some(target) = self.back.target(page, write) else {
-            self.back.miss = Miss::Asked;
-            return Ok(Turned::Moved);
-        };
-        match access(alloc, &mut self.memory, target, &line.job)? {
-            None => Ok(Turned::Rest),
-            Some((kind, bytes)) => {
-                let mark = mark(caller, number, 1, kind, 0);
-                self.history.add(Entry { mark, bytes })?;
-                self.back.end_line();
-                Ok(Turned::Moved)
-            }
-        }
-    }
-
-    fn device_turn(&mut self, alloc: Global) -> Result<Turned, AllocError>
-        ensures { OnOk result (IsOneTurn self.old self.new) }
-    {
-        if let Miss::Asked = self.back.miss {
-            return self.serve(alloc);
-        }
-        if let Sent::Queued = self.sent {
-            return self.answer(alloc);
-        }
-        Ok(Turned::Waiting)
-    }
-
-    /// Serves the back end's miss.
-    fn serve(&mut self, alloc: Global) -> Result<Turned, AllocError>
-        ensures { OnOk result (IsOneTurn self.old self.new) }
-    {
-        let Some(caller) = self.back.caller() else {
-            return Ok(Turned::Waiting);
-        };
-        let number = self.back.finished.saturating_add(1);
-        let Some(line) = self.script.line(caller, number) else {
-            return Ok(Turned::Waiting);
-        };
-        let Some((page, write)) = access_of(&line.job) else {
-            return Ok(Turned::Waiting);
-        };
-        match self.device.serve(page, write) {
-            Ok(lease) => self.back.miss = Miss::Served(lease),
-            Err(reason) => {
-                let mark = mark(caller, number, 1, Kind::Fault, reason);
-                let bytes = Bytes::new(alloc);
-                self.history.add(Entry { mark, bytes })?;
-                self.back.miss = Miss::Faulted;
-            }
-        }
-        Ok(Turned::Moved)
-    }
-
-    /// Answers the driver's request.
-    fn answer(&mut self, alloc: Global) -> Result<Turned, AllocError>
-        ensures { OnOk result (IsOneTurn self.old self.new) }
-    {
-        let number = self.finished.saturating_add(1);
-        let Some(line) = self.script.line(DRIVER, number) else {
-            return Ok(Turned::Waiting);
-        };
-        let Job::Ask(request) = &line.job else {
-            return Ok(Turned::Waiting);
-        };
-        let status = self.device.commit(request)?;
-        let mark = mark(DRIVER, number, 0, Kind::Status, status);
-        let bytes = Bytes::new(alloc);
-        self.history.add(Entry { mark, bytes })?;
-        self.sent = Sent::Answered;
-        Ok(Turned::Moved)
+        let events = has_events(&self.script);
+        read_event(&mut self.control, events)
     }
 }
 
-/// Does a transfer within one page: the kind and the bytes of its entry, or `None` where it doesn't lie in the
-/// page.
-fn access(
-    alloc: Global,
-    memory: &mut Memory,
-    page: u64,
-    job: &Job,
-) -> Result<Option<(Kind, Bytes)>, AllocError>
-    ensures { IfOk result (λ o. IfSome o (λ e. HasBytes e.0 0 e.1)) }
+/// The place of the back end with this id.
+fn place_of(backs: &[Backend], id: u32) -> Option<usize>
+    ensures { result ≡ position (λ b. b.id == id) backs.now }
 {
-    match job {
-        Job::Read { iova, len } => {
-            if *len == 0 {
-                return Ok(None);
-            }
-            match memory.read(alloc, page, *iova, *len)? {
-                None => Ok(None),
-                Some(bytes) => Ok(Some((Kind::Read, bytes))),
-            }
-        }
-        Job::Write { iova, bytes } => {
-            if !memory.write(page, *iova, bytes.as_slice()) {
-                return Ok(None);
-            }
-            Ok(Some((Kind::Wrote, Bytes::new(alloc))))
-        }
-        Job::Ask(_) | Job::Raw { .. } | Job::Bypass(_) => Ok(None),
+    backs.iter().position(|back| back.id() == id)
+}
+
+/// The page of the memory that the back end wishes to access, if it wishes that.
+fn wished_page(back: &Backend) -> Option<u64>
+    ensures { result ≡ wished_page (own_wish back.now) }
+{
+    match back.next() {
+        Wish::Access(page) => Some(page),
+        Wish::Ask(_) | Wish::Receive | Wish::Rest => None,
     }
 }
 
-#[cfg(test)]
-mod tests {
-    use super::*;
-    use std::test::Fail;
+/// Whether these drivers have finished all their lines.
+fn are_drivers_finished(drivers: &[Driver]) -> bool
+    ensures { result ≡ list_all (λ d. driver.is_finished d) drivers.now }
+{
+    drivers.iter().all(|driver| driver.is_finished())
+}
 
-    // A page is mapped for reading: a read of it is answered, and a write faults.
-    #[test]
-    fn reads_and_faults(rt: HostRuntime) -> Result<(), Fail> {
-        let alloc = rt.alloc();
-        let text = b"endpoint 7
-d0 attach 1 7
-d0 map 1 0x1000 0x1fff 0 r
-b7 read 0x1000 2 after d0.2
-b7 write 0x1004 01";
-        let mut world = World::build(alloc, vi_script::parse(alloc, text)?)?;
-        assert_eq!(rt; world.turn(alloc, Who::Back(7))?, Turned::Waiting);
-        world.run(alloc, &[Who::Driver(0), Who::Device])?;
-        for _round in 0..20 {
-            world.round(alloc)?;
-        }
-        assert!(rt; world.finished());
-        let outcome = world.outcome(alloc)?;
-        assert_eq!(rt; outcome.entries.len(), 4);
-        assert_eq!(rt; outcome.dropped, 1);
-        Ok(())
-    }
+/// Whether these back ends have.
+fn are_backs_finished(backs: &[Backend]) -> bool
+    ensures { result ≡ list_all (λ b. back.is_finished b) backs.now }
+{
+    backs.iter().all(|back| back.is_finished())
+}
+
+/// Whether the script has an event reader.
+fn has_events(script: &Script) -> bool
+    ensures { result ≡ script.now.setup.events }
+{
+    script.setup.events
 }

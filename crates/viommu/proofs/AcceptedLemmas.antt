@@ -1,14 +1,12 @@
 -- Every script that a command takes is valid.
-use Rattle.std.proofs.Common.{◌≡◌, ℕ, List, Option, Some, None, refl, ◌∙◌}
+use Rattle.std.proofs.Common.{◌≡◌, ℕ, List, Option, Some, None}
 use Rattle.std.specs.Prelude as std
 use Rattle.vi_script.proofs.SoundLemmas.{script-valid}
 use Rattle.vi_script.specs.Value.{ScriptValue}
 use Rattle.vi_script.specs.Texts.{script, Bad}
-use Rattle.vi_script.specs.Built.{not_built}
 use Rattle.vi_script.specs.Valid.{IsValid}
 use Rattle.viommu.specs.Accepted.{accepts}
 use Rattle.viommu.specs.Judged.{lines_above, script_above, without_report, judged_at, judged_script}
-use Rattle.viommu.specs.Runnable.{run_if_read, runnable}
 use Rattle.viommu.specs.declared.command.Task.{Task}
 use Rattle.viommu.specs.declared.command.Task.TheVariants.{Sim, One, Check}
 
@@ -21,14 +19,8 @@ judged-valid : (input : List ℕ) (o : Option ℕ) (s : ScriptValue) → judged_
 judged-valid input None s is = none_without _ (script input) s is
 judged-valid input (Some count) s is = script-valid (script_above input count) s is
 
-run-valid : (line : Option ℕ) (bytes : List ℕ) (r : std.Result ScriptValue Bad) (s : ScriptValue) → script bytes ≡ r → run_if_read line r ≡ std.Ok s → IsValid s
-run-valid None bytes (std.Ok t) s read is = script-valid bytes s (read ∙ is)
-run-valid (Some line) bytes (std.Ok t) s read is = absurd (cc is)
-run-valid None bytes (std.Err bad) s read is = absurd (cc is)
-run-valid (Some line) bytes (std.Err bad) s read is = absurd (cc is)
-
 pub accepts-valid : (task : Task) (input : List ℕ) (s : ScriptValue) → accepts task input ≡ std.Ok s → IsValid s
-unfolding runnable judged_script
-accepts-valid Sim input s is = run-valid (not_built input) input (script input) s refl is
+unfolding judged_script
+accepts-valid (Sim generator_seed moves) input s is = script-valid input s is
 accepts-valid One input s is = script-valid input s is
 accepts-valid Check input s is = judged-valid input (lines_above input) s is

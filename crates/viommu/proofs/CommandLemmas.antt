@@ -6,7 +6,8 @@ use Rattle.std.specs.Str.{bytes_eq}
 use Rattle.std.proofs.lemmas.Bool.{leb-true, false_from_ne_true}
 use Rattle.std.proofs.lemmas.Slice.Eq.{bytes_eq-Decides}
 use Rattle.viommu.specs.Words.{number_of}
-use Rattle.viommu.specs.Command.{word_is_zero, sim_of, make_for, make_of, alone, named, command_of, command_in, IsForm}
+use Rattle.viommu.specs.Command.{sim_for, sim_of, make_for, make_of, alone, named, command_of, command_in, IsForm}
+use Rattle.viommu.specs.declared.command.TheConstants.{MOST_MOVES}
 use Rattle.viommu.specs.declared.command.Command.TheVariants.{Script, Make}
 use Rattle.viommu.specs.declared.command.Task.{Task}
 use Rattle.viommu.specs.declared.command.Task.TheVariants.{Sim, One, Check}
@@ -52,15 +53,20 @@ make_form [] = tt
 make_form (rounds ∷ []) = number_form (number_of rounds)
 make_form (rounds ∷ more ∷ words) = tt
 
+schedule_form : (o p : Option ℕ) → IsForm (sim_for o p)
+schedule_form None p = tt
+schedule_form (Some generator_seed) None = tt
+schedule_form (Some generator_seed) (Some moves) = go (nat_le moves MOST_MOVES)
+  where
+    go : (b : Bool) → IsForm (cond b (Some (Script (Sim generator_seed moves))) None)
+    go true = tt
+    go false = tt
+
 sim_form : (words : List (List ℕ)) → IsForm (sim_of words)
 sim_form [] = tt
 sim_form (generator_seed ∷ []) = tt
-sim_form (generator_seed ∷ turns ∷ []) = go (word_is_zero generator_seed && word_is_zero turns)
-  where
-    go : (b : Bool) → IsForm (cond b (Some (Script Sim)) None)
-    go true = tt
-    go false = tt
-sim_form (generator_seed ∷ turns ∷ more ∷ words) = tt
+sim_form (generator_seed ∷ moves ∷ []) = schedule_form (number_of generator_seed) (number_of moves)
+sim_form (generator_seed ∷ moves ∷ more ∷ words) = tt
 
 alone_form : (task : Task) (words : List (List ℕ)) → IsForm (alone task words)
 alone_form task [] = tt

@@ -14,6 +14,7 @@ use Rattle.vi_check.specs.Texts.{verdict_text}
 use Rattle.vi_check.specs.declared.verdict.Verdict.{Verdict}
 use Rattle.vi_check.specs.declared.verdict.Verdict.TheVariants as verdicts
 use Rattle.vi_check.proofs.LegalLemmas.{legal_exactly}
+use Rattle.vi_sim.specs.Simulated.{simulated}
 use Rattle.vi_order.proofs.Unmapped.{unmaps_hold}
 use Rattle.vi_make.specs.LoadScript.{load_script}
 use Rattle.viommu.specs.Accepted.{accepts, limit_of, task_of}
@@ -23,14 +24,14 @@ use Rattle.viommu.specs.Judged.{judged_report}
 use Rattle.viommu.specs.OneThread.{one_thread}
 use Rattle.viommu.specs.Output.{TakesProperPrefix}
 use Rattle.viommu.specs.Status.{status_text}
-use Rattle.viommu.specs.Work.{Judges, Answers, sims, spends, replies, bad_report, legal, wrong, Does, took, refused}
-use Rattle.viommu.specs.Top.{Outside, Works, IsTooMuch, IsDue, usage, too_long, worked, made, IsFault, IsJudged, WritesVerdict, Writes, IsRefusedAt, IsBadReport, IsSpentOn, CutsText, IsTooLongPast, verdict_status, report_status, IsDone, IsDoneWithin, IsRefusedWithin, Ends, delivered, cut, not_read, no_memory}
+use Rattle.viommu.specs.Work.{Sims, Judges, Answers, sims, replies, bad_report, legal, wrong, Does, took, refused}
+use Rattle.viommu.specs.Top.{Outside, Works, IsTooMuch, IsDue, usage, too_long, worked, made, IsFault, IsJudged, WritesReport, WritesVerdict, Writes, IsRefusedAt, IsBadReport, CutsText, IsTooLongPast, verdict_status, report_status, IsDone, IsDoneWithin, IsRefusedWithin, Ends, delivered, cut, not_read, no_memory}
 use Rattle.viommu.specs.declared.command.Command.{Command}
 use Rattle.viommu.specs.declared.command.Command.TheVariants.{Make}
 use Rattle.viommu.specs.declared.command.Task.{Task}
 use Rattle.viommu.specs.declared.command.Task.TheVariants.{Sim, One, Check}
 use Rattle.viommu.specs.declared.status.Status.{Status}
-use Rattle.viommu.specs.declared.status.Status.TheVariants.{Ok, Usage, BadScript, TooLong, ReadFault, WriteFault, OutOfMemory, Spent, Wrong, BadReport}
+use Rattle.viommu.specs.declared.status.Status.TheVariants.{Ok, Usage, BadScript, TooLong, ReadFault, WriteFault, OutOfMemory, Wrong, BadReport}
 use Rattle.viommu.proofs.AcceptedLemmas.{accepts-valid}
 use Rattle.viommu.proofs.OneLemmas.{one_thread-legal, one_thread-records}
 
@@ -66,14 +67,12 @@ Ends-from_make command old new result rounds form either whole prefix nothing ro
 abbrev IsWorkStatus : Status → Type 0
 IsWorkStatus Ok = Unit {0}
 IsWorkStatus (BadScript _ _) = Unit {0}
-IsWorkStatus Spent = Unit {0}
 IsWorkStatus Wrong = Unit {0}
 IsWorkStatus (BadReport _) = Unit {0}
 IsWorkStatus _ = ⊥
 
 answers_status : {task : Task} {input : List ℕ} {s : ScriptValue} {status : Status} {answer : List ℕ} → Answers task input s status answer → IsWorkStatus status
-answers_status (sims is d st) = subst IsWorkStatus (sym st) tt
-answers_status (spends is d st a) = subst IsWorkStatus (sym st) tt
+answers_status (sims a b is d st) = subst IsWorkStatus (sym st) tt
 answers_status (replies is d st) = subst IsWorkStatus (sym st) tt
 answers_status (bad_report is line r st a) = subst IsWorkStatus (sym st) tt
 answers_status (legal is j v st) = subst IsWorkStatus (sym st) tt
@@ -102,8 +101,7 @@ make_task form is = absurd (cc (sym (ap task_of form) ∙ is))
 
 -- the text of a status that isn't Ok or Wrong is its own
 answers_text : {task : Task} {input : List ℕ} {s : ScriptValue} {status : Status} {answer : List ℕ} → Answers task input s status answer → status ≢ Ok → status ≢ Wrong → answer ≡ status_text status
-answers_text (sims is d st) not_ok not_wrong = absurd (not_ok st)
-answers_text (spends is d st a) not_ok not_wrong = a
+answers_text (sims a b is d st) not_ok not_wrong = absurd (not_ok st)
 answers_text (replies is d st) not_ok not_wrong = absurd (not_ok st)
 answers_text (bad_report is line r st a) not_ok not_wrong = a
 answers_text (legal is j v st) not_ok not_wrong = absurd (not_ok st)
@@ -141,6 +139,15 @@ other_status (verdicts.Order entry) other = refl
 other_status (verdicts.Extra entry) other = refl
 other_status (verdicts.Missing caller line part) other = refl
 other_status (verdicts.Faults at) other = refl
+
+-- what one schedule writes is what the same one writes
+abbrev SimsAs : ScriptValue → List ℕ → Task → Type 0
+SimsAs s answer (Sim generator_seed moves) = Sims s generator_seed moves answer
+SimsAs s answer One = Unit {0}
+SimsAs s answer Check = Unit {0}
+
+sims_same : (s : ScriptValue) (answer : List ℕ) (task : Task) (other_seed other_moves : ℕ) → task ≡ Sim other_seed other_moves → Sims s other_seed other_moves answer → SimsAs s answer task
+sims_same s answer task other_seed other_moves same d = subst (SimsAs s answer) (sym same) d
 
 module _ (command : Option Command) (old new : Outside) (status : Status) where
   pub usage_only : Ends command old new status → status ≡ Usage → command ≡ None
@@ -230,26 +237,32 @@ module _ (command : Option Command) (old new : Outside) (status : Status) where
   abbrev judged_of : (input answer : List ℕ) (s : ScriptValue) → ReadsAll old.left new.left input → accepts Check input ≡ std.Ok s → Judges s input answer → IsJudged old.left new.left
   judged_of input answer s read is j = record { input = input; read = read; s = s; is_script = is; outcome = j.outcome; is_report = j.is_report }
 
-  ok_answers : (task : Task) (input answer : List ℕ) (s : ScriptValue) → ReadsAll old.left new.left input → Appends old.taken new.taken answer → status ≡ Ok → accepts task input ≡ std.Ok s → Answers task input s status answer
-      → Writes task old.left new.left old.taken new.taken
-  ok_answers Sim input answer s read taken is accepted (sims _ d st) = record {
+  -- the report of a run was written
+  report_written : (generator_seed moves : ℕ) (input answer : List ℕ) (s : ScriptValue) → ReadsAll old.left new.left input → Appends old.taken new.taken answer → accepts (Sim generator_seed moves) input ≡ std.Ok s → Sims s generator_seed moves answer
+      → WritesReport generator_seed moves old.left new.left old.taken new.taken
+  report_written generator_seed moves input answer s read taken accepted d = record {
     input = input;
     read = read;
     s = s;
     is_script = accepted;
-    outcome = d.outcome;
     made = d.made;
     typed = d.typed;
-    of_run = d.of_run;
     took = subst (λ (t : List ℕ). Appends old.taken new.taken t) d.report taken;
+    ordered = d.ordered;
+    legal = d.legal;
+    records = d.records;
+    unmapped = unmaps_hold s (simulated s generator_seed moves).entries d.legal;
   }
-  ok_answers Sim input answer s read taken is accepted (spends _ d st a) = absurd (cc (st, is))
-  ok_answers Sim input answer s read taken is accepted (replies other d st) = absurd (cc other)
-  ok_answers Sim input answer s read taken is accepted (bad_report other line r st a) = absurd (cc other)
-  ok_answers Sim input answer s read taken is accepted (legal other j v st) = absurd (cc other)
-  ok_answers Sim input answer s read taken is accepted (wrong other j v st) = absurd (cc other)
-  ok_answers One input answer s read taken is accepted (sims other d st) = absurd (cc other)
-  ok_answers One input answer s read taken is accepted (spends other d st a) = absurd (cc other)
+
+  ok_answers : (task : Task) (input answer : List ℕ) (s : ScriptValue) → ReadsAll old.left new.left input → Appends old.taken new.taken answer → status ≡ Ok → accepts task input ≡ std.Ok s → Answers task input s status answer
+      → Writes task old.left new.left old.taken new.taken
+  ok_answers (Sim generator_seed moves) input answer s read taken is accepted (sims other_seed other_moves same d st) =
+      report_written generator_seed moves input answer s read taken accepted (sims_same s answer (Sim generator_seed moves) other_seed other_moves same d)
+  ok_answers (Sim generator_seed moves) input answer s read taken is accepted (replies other d st) = absurd (cc other)
+  ok_answers (Sim generator_seed moves) input answer s read taken is accepted (bad_report other line r st a) = absurd (cc other)
+  ok_answers (Sim generator_seed moves) input answer s read taken is accepted (legal other j v st) = absurd (cc other)
+  ok_answers (Sim generator_seed moves) input answer s read taken is accepted (wrong other j v st) = absurd (cc other)
+  ok_answers One input answer s read taken is accepted (sims _ _ other d st) = absurd (cc other)
   ok_answers One input answer s read taken is accepted (replies _ d st) = record {
     input = input;
     read = read;
@@ -265,8 +278,7 @@ module _ (command : Option Command) (old new : Outside) (status : Status) where
   ok_answers One input answer s read taken is accepted (bad_report other line r st a) = absurd (cc other)
   ok_answers One input answer s read taken is accepted (legal other j v st) = absurd (cc other)
   ok_answers One input answer s read taken is accepted (wrong other j v st) = absurd (cc other)
-  ok_answers Check input answer s read taken is accepted (sims other d st) = absurd (cc other)
-  ok_answers Check input answer s read taken is accepted (spends other d st a) = absurd (cc other)
+  ok_answers Check input answer s read taken is accepted (sims _ _ other d st) = absurd (cc other)
   ok_answers Check input answer s read taken is accepted (replies other d st) = absurd (cc other)
   ok_answers Check input answer s read taken is accepted (bad_report _ line r st a) = absurd (cc (st, is))
   ok_answers Check input answer s read taken is accepted (legal _ j v st) =
@@ -291,8 +303,7 @@ module _ (command : Option Command) (old new : Outside) (status : Status) where
       ok_does task w is w.done
 
   bad_does : (task : Task) (line : ℕ) (kind : BadKind) (input answer : List ℕ) → ReadsAll old.left new.left input → status ≡ BadScript line kind → Does task input status answer → IsRefusedAt task line kind old.left new.left
-  bad_does task line kind input answer read is (took s accepted (sims _ d st)) = absurd (cc (st, is))
-  bad_does task line kind input answer read is (took s accepted (spends _ d st a)) = absurd (cc (st, is))
+  bad_does task line kind input answer read is (took s accepted (sims _ _ _ d st)) = absurd (cc (st, is))
   bad_does task line kind input answer read is (took s accepted (replies _ d st)) = absurd (cc (st, is))
   bad_does task line kind input answer read is (took s accepted (bad_report _ l r st a)) = absurd (cc (st, is))
   bad_does task line kind input answer read is (took s accepted (legal _ j v st)) = absurd (cc (st, is))
@@ -308,8 +319,7 @@ module _ (command : Option Command) (old new : Outside) (status : Status) where
       bad_does task line kind w.input w.text w.read is w.done
 
   report_does : (task : Task) (line : ℕ) (input answer : List ℕ) → ReadsAll old.left new.left input → status ≡ BadReport line → Does task input status answer → (task ≡ Check) × IsBadReport line old.left new.left
-  report_does task line input answer read is (took s accepted (sims _ d st)) = absurd (cc (st, is))
-  report_does task line input answer read is (took s accepted (spends _ d st a)) = absurd (cc (st, is))
+  report_does task line input answer read is (took s accepted (sims _ _ _ d st)) = absurd (cc (st, is))
   report_does task line input answer read is (took s accepted (replies _ d st)) = absurd (cc (st, is))
   report_does task line input answer read is (took s accepted (bad_report check l r st a)) =
       let same : l ≡ line = cc (st, is) in
@@ -330,8 +340,7 @@ module _ (command : Option Command) (old new : Outside) (status : Status) where
       (some_task t.1 r.0, r.1)
 
   wrong_does : (task : Task) (w : WorkOf task) → status ≡ Wrong → Does task w.input status w.text → (task ≡ Check) × WritesVerdict old.left new.left old.taken new.taken
-  wrong_does task w is (took s accepted (sims _ d st)) = absurd (cc (st, is))
-  wrong_does task w is (took s accepted (spends _ d st a)) = absurd (cc (st, is))
+  wrong_does task w is (took s accepted (sims _ _ _ d st)) = absurd (cc (st, is))
   wrong_does task w is (took s accepted (replies _ d st)) = absurd (cc (st, is))
   wrong_does task w is (took s accepted (bad_report _ l r st a)) = absurd (cc (st, is))
   wrong_does task w is (took s accepted (legal _ j v st)) = absurd (cc (st, is))
@@ -351,24 +360,6 @@ module _ (command : Option Command) (old new : Outside) (status : Status) where
       let t = task_at ends work (λ ok. absurd (cc (ok, is))) in
       let w : WorkOf t.0 = worked_out ends work t.0 t.1 in
       let r = wrong_does t.0 w is w.done in
-      (some_task t.1 r.0, r.1)
-
-  spent_does : (task : Task) (input answer : List ℕ) → ReadsAll old.left new.left input → status ≡ Spent → Does task input status answer → (task ≡ Sim) × IsSpentOn old.left new.left
-  spent_does task input answer read is (took s accepted (sims _ d st)) = absurd (cc (st, is))
-  spent_does task input answer read is (took s accepted (spends sim d st a)) =
-      (sim, record { input = input; read = read; s = s; is_script = subst (λ (t : Task). accepts t input ≡ std.Ok s) sim accepted; spent = d })
-  spent_does task input answer read is (took s accepted (replies _ d st)) = absurd (cc (st, is))
-  spent_does task input answer read is (took s accepted (bad_report _ l r st a)) = absurd (cc (st, is))
-  spent_does task input answer read is (took s accepted (legal _ j v st)) = absurd (cc (st, is))
-  spent_does task input answer read is (took s accepted (wrong _ j v st)) = absurd (cc (st, is))
-  spent_does task input answer read is (refused bad r st a) = absurd (cc (st, is))
-
-  pub spent_only : Ends command old new status → status ≡ Spent → (task_of command ≡ Some Sim) × IsSpentOn old.left new.left
-  spent_only ends is =
-      let work = subst IsWorkStatus (sym is) tt in
-      let t = task_at ends work (λ ok. absurd (cc (ok, is))) in
-      let w : WorkOf t.0 = worked_out ends work t.0 t.1 in
-      let r = spent_does t.0 w.input w.text w.read is w.done in
       (some_task t.1 r.0, r.1)
 
   pub read_fault_rose : Ends command old new status → status ≡ ReadFault → Rose old.read_faults new.read_faults
@@ -419,20 +410,17 @@ read_status : (s : ScriptValue) (input : List ℕ) (o : Outcome) → read_report
 read_status s input o is = ap (report_status s) is
 
 done_answers : (task : Task) {input answer : List ℕ} {status : Status} (s : ScriptValue) → Answers task input s status answer → IsDone task input s status
-done_answers Sim s (sims _ d st) = inl st
-done_answers Sim s (spends _ d st a) = inr st
-done_answers Sim s (replies other d st) = absurd (cc other)
-done_answers Sim s (bad_report other line r st a) = absurd (cc other)
-done_answers Sim s (legal other j v st) = absurd (cc other)
-done_answers Sim s (wrong other j v st) = absurd (cc other)
-done_answers One s (sims other d st) = absurd (cc other)
-done_answers One s (spends other d st a) = absurd (cc other)
+done_answers (Sim generator_seed moves) s (sims _ _ _ d st) = st
+done_answers (Sim generator_seed moves) s (replies other d st) = absurd (cc other)
+done_answers (Sim generator_seed moves) s (bad_report other line r st a) = absurd (cc other)
+done_answers (Sim generator_seed moves) s (legal other j v st) = absurd (cc other)
+done_answers (Sim generator_seed moves) s (wrong other j v st) = absurd (cc other)
+done_answers One s (sims _ _ other d st) = absurd (cc other)
 done_answers One s (replies _ d st) = st
 done_answers One s (bad_report other line r st a) = absurd (cc other)
 done_answers One s (legal other j v st) = absurd (cc other)
 done_answers One s (wrong other j v st) = absurd (cc other)
-done_answers Check s (sims other d st) = absurd (cc other)
-done_answers Check s (spends other d st a) = absurd (cc other)
+done_answers Check s (sims _ _ other d st) = absurd (cc other)
 done_answers Check s (replies other d st) = absurd (cc other)
 done_answers Check s (bad_report _ line r st a) = st ∙ sym (ap (report_status s) r)
 done_answers Check {input = input} s (legal _ j v st) = st ∙ sym (read_status s input j.outcome j.is_report ∙ legal_status (verdict s j.outcome) v)

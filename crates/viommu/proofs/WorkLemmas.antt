@@ -6,7 +6,6 @@ use Rattle.vi_check.specs.Verdicts.{verdict}
 use Rattle.vi_check.specs.Texts.{verdict_text}
 use Rattle.vi_check.specs.declared.verdict.Verdict.{Verdict}
 use Rattle.vi_check.specs.declared.verdict.Verdict.TheVariants as verdicts
-use Rattle.vi_core.specs.Worlds.{IsOutcome, IsSpent}
 use Rattle.vi_history.specs.Outcomes.{IsWellMade}
 use Rattle.vi_history.specs.declared.outcome.Outcome.{Outcome}
 use Rattle.vi_report.specs.Reading.{read_report}
@@ -14,12 +13,15 @@ use Rattle.vi_report.specs.Texts.{text}
 use Rattle.vi_report.specs.Types.{IsTyped}
 use Rattle.vi_script.specs.Value.{ScriptValue}
 use Rattle.vi_script.specs.Texts.{Bad}
+use Rattle.vi_script.specs.Legal.{IsLegalHistory, HasRecords}
+use Rattle.vi_script.specs.Ordered.{IsOrdered}
+use Rattle.vi_sim.specs.Simulated.{simulated}
 use Rattle.viommu.specs.Accepted.{accepts}
 use Rattle.viommu.specs.Judged.{judged_report}
 use Rattle.viommu.specs.OneThread.{one_thread}
 use Rattle.viommu.specs.Status.{status_text}
 use Rattle.viommu.specs.Top.{verdict_status}
-use Rattle.viommu.specs.Work.{Judges, Answers, sims, spends, replies, bad_report, legal, wrong, Does, took, refused}
+use Rattle.viommu.specs.Work.{Judges, Answers, sims, replies, bad_report, legal, wrong, Does, took, refused}
 use Rattle.viommu.specs.declared.command.Task.{Task}
 use Rattle.viommu.specs.declared.command.Task.TheVariants.{Sim, One, Check}
 use Rattle.viommu.specs.declared.work.Answer.{Answer}
@@ -39,16 +41,12 @@ does-took task input s (Ok a) is answers = took s is answers
 does-took task input s (Err e) is answers = tt
 
 -- the report of a run
-pub answers-sims : (input : List ℕ) (s : ScriptValue) (o : Outcome) (r : Result Answer AllocError) → IsWellMade o → IsOutcome s o
-    → IfOk r (λ a. a.status ≡ status.Ok) → IfOk r (λ a. a.text ≡ text o) → OnOk r (IsTyped o) → IfOk r (λ a. Answers Sim input s a.status a.text)
-answers-sims input s o (Ok a) made of_run st words typed = sims refl (record { outcome = o; made = made; typed = typed; of_run = of_run; report = words }) st
-answers-sims input s o (Err e) made of_run st words typed = tt
-
--- the budget was made
-pub answers-spent : (input : List ℕ) (s : ScriptValue) (r : Result Answer AllocError) → IsSpent s → IfOk r (λ a. a.status ≡ status.Spent) → IfOk r (λ a. a.text ≡ status_text status.Spent)
-    → IfOk r (λ a. Answers Sim input s a.status a.text)
-answers-spent input s (Ok a) spent st words = spends refl spent st (words ∙ ap status_text (sym st))
-answers-spent input s (Err e) spent st words = tt
+pub answers-sims : (input : List ℕ) (s : ScriptValue) (generator_seed moves : ℕ) (o : Outcome) (r : Result Answer AllocError) → o ≡ simulated s generator_seed moves → IsWellMade o
+    → IsOrdered s (simulated s generator_seed moves).entries → IsLegalHistory s (simulated s generator_seed moves).entries → HasRecords s (simulated s generator_seed moves)
+    → IfOk r (λ a. a.status ≡ status.Ok) → IfOk r (λ a. a.text ≡ text o) → OnOk r (IsTyped o) → IfOk r (λ a. Answers (Sim generator_seed moves) input s a.status a.text)
+answers-sims input s generator_seed moves o (Ok a) is made in_order answers shown st words typed =
+    sims generator_seed moves refl (record { made = rw (← is) made; typed = rw (← is) typed; report = words ∙ ap text is; ordered = in_order; legal = answers; records = shown }) st
+answers-sims input s generator_seed moves o (Err e) is made in_order answers shown st words typed = tt
 
 -- the report of the replies
 pub answers-replies : (input : List ℕ) (s : ScriptValue) (o : Outcome) (r : Result Answer AllocError) → o ≡ one_thread s → IsWellMade o

@@ -4,7 +4,6 @@ use Rattle.std.specs.declared.option.Option.{Option}
 use Rattle.vi_script.specs.Value.{ScriptValue}
 use Rattle.vi_script.specs.Texts.{script, Bad}
 use Rattle.viommu.specs.Judged.{judged_script}
-use Rattle.viommu.specs.Runnable.{runnable}
 use Rattle.viommu.specs.declared.command.Command.{Command}
 use Rattle.viommu.specs.declared.command.Command.TheVariants.{Script, Make}
 use Rattle.viommu.specs.declared.command.Task.{Task}
@@ -13,13 +12,13 @@ use Rattle.viommu.specs.declared.top.TheConstants.{INPUT_LIMIT, CHECK_LIMIT}
 
 -- the script that is taken from the input, or the first line at which the input is refused
 abbrev pub accepts : Task → List ℕ → Result ScriptValue Bad
-accepts Sim input = runnable input
+accepts (Sim generator_seed moves) input = script input
 accepts One input = script input
 accepts Check input = judged_script input
 
 -- how many bytes of input are read at most
 abbrev pub limit_of : Task → ℕ
-limit_of Sim = INPUT_LIMIT
+limit_of (Sim generator_seed moves) = INPUT_LIMIT
 limit_of One = INPUT_LIMIT
 limit_of Check = CHECK_LIMIT
 

@@ -1,25 +1,23 @@
 -- The forms of the command line, by the words behind the program's name.
-use Rattle.std.specs.Prelude.{◌==◌, ◌≤◌, ⊤, ℕ, Bool, false, ◌&&◌, nat_le, if◌then◌else◌, List, [], ◌∷◌, map, String, string_bytes, Some, None, codes}
+use Rattle.std.specs.Prelude.{◌≤◌, ⊤, ℕ, ◌&&◌, nat_le, if◌then◌else◌, List, [], ◌∷◌, map, String, string_bytes, Some, None, codes}
 use Rattle.std.specs.declared.option.Option.{Option}
 use Rattle.std.specs.Str.{bytes_eq}
 use Rattle.viommu.specs.Words.{number_of}
+use Rattle.viommu.specs.declared.command.TheConstants.{MOST_MOVES}
 use Rattle.viommu.specs.declared.command.Command.{Command}
 use Rattle.viommu.specs.declared.command.Command.TheVariants.{Script, Make}
 use Rattle.viommu.specs.declared.command.Task.{Task}
 use Rattle.viommu.specs.declared.command.Task.TheVariants.{Sim, One, Check}
 
--- there is a number, and it is 0
-abbrev pub holds_zero : Option ℕ → Bool
-holds_zero None = false
-holds_zero (Some n) = n == 0
+-- `sim S T`: S is a number below 2^64, and T one that is at most MOST_MOVES
+abbrev pub sim_for : Option ℕ → Option ℕ → Option Command
+sim_for None moves = None
+sim_for (Some generator_seed) None = None
+sim_for (Some generator_seed) (Some moves) = if nat_le moves MOST_MOVES then Some (Script (Sim generator_seed moves)) else None
 
--- the word is a number that is 0
-abbrev pub word_is_zero : List ℕ → Bool
-word_is_zero word = holds_zero (number_of word)
-
--- `sim 0 0`: the words behind `sim`
+-- the words behind `sim`
 abbrev pub sim_of : List (List ℕ) → Option Command
-sim_of (generator_seed ∷ turns ∷ []) = if word_is_zero generator_seed && word_is_zero turns then Some (Script Sim) else None
+sim_of (generator_seed ∷ moves ∷ []) = sim_for (number_of generator_seed) (number_of moves)
 sim_of words = None
 
 -- a load script has 1 to 400 rounds

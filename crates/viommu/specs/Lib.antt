@@ -8,7 +8,6 @@ pub mod Standard
 pub mod Status
 pub mod Top
 pub mod Words
-pub mod Runnable
 pub mod Work
 pub mod Counts
 pub mod Made

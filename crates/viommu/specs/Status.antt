@@ -4,7 +4,7 @@ use Rattle.std.specs.Fmt.{decimal}
 use Rattle.vi_script.specs.Faults.{kind_text}
 use Rattle.vi_script.specs.declared.fault.BadKind.{BadKind}
 use Rattle.viommu.specs.declared.status.Status.{Status}
-use Rattle.viommu.specs.declared.status.Status.TheVariants.{Ok, Usage, BadScript, TooLong, ReadFault, WriteFault, OutOfMemory, Spent, Wrong, BadReport}
+use Rattle.viommu.specs.declared.status.Status.TheVariants.{Ok, Usage, BadScript, TooLong, ReadFault, WriteFault, OutOfMemory, Wrong, BadReport}
 
 -- the number with which the process ends
 abbrev pub status_number : Status → ℕ
@@ -16,7 +16,6 @@ status_number ReadFault = 5
 status_number WriteFault = 6
 status_number Wrong = 7
 status_number OutOfMemory = 8
-status_number Spent = 9
 status_number (BadReport _) = 10
 
 -- the text and LF
@@ -35,7 +34,7 @@ bad_report_text line = line_of (codes "bad report line " ++ decimal line)
 -- or want of memory none.
 abbrev pub status_text : Status → List ℕ
 status_text Ok = []
-status_text Usage = line_of (codes "usage: viommu sim 0 0 | one | check | make N")
+status_text Usage = line_of (codes "usage: viommu sim S T | one | check | make N")
 status_text (BadScript line kind) = bad_script_text line kind
 status_text TooLong = line_of (codes "input too long")
 status_text ReadFault = []
@@ -43,4 +42,3 @@ status_text WriteFault = []
 status_text OutOfMemory = []
 status_text Wrong = []
 status_text (BadReport line) = bad_report_text line
-status_text Spent = line_of (codes "spent")

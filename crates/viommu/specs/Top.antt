@@ -8,7 +8,7 @@ use Rattle.vi_history.specs.declared.outcome.Outcome.{Outcome}
 use Rattle.vi_report.specs.Texts.{text}
 use Rattle.vi_report.specs.Types.{IsTyped}
 use Rattle.vi_report.specs.Reading.{read_report}
-use Rattle.vi_core.specs.Worlds.{IsOutcome, IsSpent}
+use Rattle.vi_sim.specs.Simulated.{simulated}
 use Rattle.vi_script.specs.Value.{ScriptValue}
 use Rattle.vi_script.specs.Texts.{Bad}
 use Rattle.vi_script.specs.Legal.{IsLegalHistory, HasRecords}
@@ -33,7 +33,7 @@ use Rattle.viommu.specs.declared.command.Command.TheVariants.{Make}
 use Rattle.viommu.specs.declared.command.Task.{Task}
 use Rattle.viommu.specs.declared.command.Task.TheVariants.{Sim, One, Check}
 use Rattle.viommu.specs.declared.status.Status.{Status}
-use Rattle.viommu.specs.declared.status.Status.TheVariants.{Ok, Usage, BadScript, TooLong, ReadFault, WriteFault, OutOfMemory, Spent, Wrong, BadReport}
+use Rattle.viommu.specs.declared.status.Status.TheVariants.{Ok, Usage, BadScript, TooLong, ReadFault, WriteFault, OutOfMemory, Wrong, BadReport}
 
 -- the command's work is done on all that the source had left, within the limit
 pub record Works (command : Option Command) (old new : Option (List ℕ)) (status : Status) (text : List ℕ) : Type 0 where
@@ -65,18 +65,21 @@ IsFault WriteFault = ⊤
 IsFault OutOfMemory = ⊤
 IsFault _ = ⊥
 
--- `sim 0 0`: the whole input is a script, and what the sink took is the report of the one outcome of its run, in which its
--- lines are finished. The text determines the outcome.
-pub record WritesReport (left_old left_new taken_old taken_new : Option (List ℕ)) : Type 0 where
+-- `sim S T`: the whole input is a script, and what the sink took is the report of its run under the schedule of S and T.
+-- The run's history has every line, in order; it is legal, its fault records are shown well, and nothing in it goes
+-- through what was unmapped. The text determines the outcome.
+pub record WritesReport (generator_seed moves : ℕ) (left_old left_new taken_old taken_new : Option (List ℕ)) : Type 0 where
   pub input : List ℕ
   pub read : ReadsAll left_old left_new input
   pub s : ScriptValue
-  pub is_script : accepts Sim input ≡ std.Ok s
-  pub outcome : Outcome
-  pub made : IsWellMade outcome
-  pub typed : IsTyped outcome
-  pub of_run : IsOutcome s outcome
-  pub took : Appends taken_old taken_new (text outcome)
+  pub is_script : accepts (Sim generator_seed moves) input ≡ std.Ok s
+  pub made : IsWellMade (simulated s generator_seed moves)
+  pub typed : IsTyped (simulated s generator_seed moves)
+  pub took : Appends taken_old taken_new (text (simulated s generator_seed moves))
+  pub ordered : IsOrdered s (simulated s generator_seed moves).entries
+  pub legal : IsLegalHistory s (simulated s generator_seed moves).entries
+  pub records : HasRecords s (simulated s generator_seed moves)
+  pub unmapped : FaultsBehindUnmaps s (simulated s generator_seed moves).entries
 
 -- `one`: the whole input is a script, and what the sink took is the report of the replies of the one-thread device to its
 -- lines. Their history is legal, all its fault records are shown, and nothing in it goes through what was unmapped.
@@ -119,7 +122,7 @@ pub record WritesVerdict (left_old left_new taken_old taken_new : Option (List �
 
 -- what a command that reads its input did, where it ended with Ok
 abbrev pub Writes : Task → Option (List ℕ) → Option (List ℕ) → Option (List ℕ) → Option (List ℕ) → Type 0
-Writes Sim left_old left_new taken_old taken_new = WritesReport left_old left_new taken_old taken_new
+Writes (Sim generator_seed moves) left_old left_new taken_old taken_new = WritesReport generator_seed moves left_old left_new taken_old taken_new
 Writes One left_old left_new taken_old taken_new = WritesReplies left_old left_new taken_old taken_new
 Writes Check left_old left_new taken_old taken_new = WritesLegal left_old left_new taken_old taken_new
 
@@ -136,14 +139,6 @@ pub record IsBadReport (line : ℕ) (left_old left_new : Option (List ℕ)) : Ty
   pub s : ScriptValue
   pub is_script : accepts Check input ≡ std.Ok s
   pub refused : read_report (judged_report input) ≡ std.Err line
-
--- the whole input is a script, of which the budget of rounds was made, and its lines aren't finished
-pub record IsSpentOn (left_old left_new : Option (List ℕ)) : Type 0 where
-  pub input : List ℕ
-  pub read : ReadsAll left_old left_new input
-  pub s : ScriptValue
-  pub is_script : accepts Sim input ≡ std.Ok s
-  pub spent : IsSpent s
 
 -- a status was due, and the sink took a proper prefix of its text
 abbrev pub CutsText : Option Command → Option (List ℕ) → Option (List ℕ) → Option (List ℕ) → Option (List ℕ) → Type 0
@@ -169,9 +164,9 @@ abbrev pub report_status : ScriptValue → Result Outcome ℕ → Status
 report_status s (std.Ok outcome) = verdict_status (verdict s outcome)
 report_status s (std.Err line) = BadReport line
 
--- the work on a script is done, or for `sim` the budget of turns was made
+-- the work on a script is done; for `check` the status is that of its report
 abbrev pub IsDone : Task → List ℕ → ScriptValue → Status → Type 0
-IsDone Sim input s status = (status ≡ Ok) ⊎ (status ≡ Spent)
+IsDone (Sim generator_seed moves) input s status = status ≡ Ok
 IsDone One input s status = status ≡ Ok
 IsDone Check input s status = status ≡ report_status s (read_report (judged_report input))
 

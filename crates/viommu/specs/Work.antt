@@ -9,9 +9,11 @@ use Rattle.vi_report.specs.Reading.{read_report}
 use Rattle.vi_check.specs.Verdicts.{verdict}
 use Rattle.vi_check.specs.Texts.{verdict_text}
 use Rattle.vi_check.specs.declared.verdict.Verdict.TheVariants as verdicts
-use Rattle.vi_core.specs.Worlds.{IsOutcome, IsSpent}
+use Rattle.vi_sim.specs.Simulated.{simulated}
 use Rattle.vi_script.specs.Value.{ScriptValue}
 use Rattle.vi_script.specs.Texts.{Bad}
+use Rattle.vi_script.specs.Legal.{IsLegalHistory, HasRecords}
+use Rattle.vi_script.specs.Ordered.{IsOrdered}
 use Rattle.viommu.specs.Accepted.{accepts}
 use Rattle.viommu.specs.Judged.{judged_report}
 use Rattle.viommu.specs.OneThread.{one_thread}
@@ -19,15 +21,17 @@ use Rattle.viommu.specs.Status.{status_text}
 use Rattle.viommu.specs.declared.command.Task.{Task}
 use Rattle.viommu.specs.declared.command.Task.TheVariants.{Sim, One, Check}
 use Rattle.viommu.specs.declared.status.Status.{Status}
-use Rattle.viommu.specs.declared.status.Status.TheVariants.{Ok, BadScript, Spent, Wrong, BadReport}
+use Rattle.viommu.specs.declared.status.Status.TheVariants.{Ok, BadScript, Wrong, BadReport}
 
--- `sim 0 0`: the script's run has this outcome, and its report is the text
-pub record Sims (s : ScriptValue) (answer : List ℕ) : Type 0 where
-  pub outcome : Outcome
-  pub made : IsWellMade outcome
-  pub typed : IsTyped outcome
-  pub of_run : IsOutcome s outcome
-  pub report : answer ≡ text outcome
+-- `sim S T`: the text is the report of the script's run under the schedule of S and T. The run's history is in order and
+-- legal, and its fault records are shown well.
+pub record Sims (s : ScriptValue) (generator_seed moves : ℕ) (answer : List ℕ) : Type 0 where
+  pub made : IsWellMade (simulated s generator_seed moves)
+  pub typed : IsTyped (simulated s generator_seed moves)
+  pub report : answer ≡ text (simulated s generator_seed moves)
+  pub ordered : IsOrdered s (simulated s generator_seed moves).entries
+  pub legal : IsLegalHistory s (simulated s generator_seed moves).entries
+  pub records : HasRecords s (simulated s generator_seed moves)
 
 -- `one`: the text is the report of the replies of the one-thread device
 pub record Replies (s : ScriptValue) (answer : List ℕ) : Type 0 where
@@ -42,12 +46,10 @@ pub record Judges (s : ScriptValue) (input answer : List ℕ) : Type 0 where
   pub made : IsWellMade outcome
   pub words : answer ≡ verdict_text (verdict s outcome)
 
--- What comes of a script: the text that the command makes of it. For `sim`, the budget of turns may be made before the
--- lines of the run are finished. For `check`, the report may be refused at its first bad line, and the verdict may find
--- something wrong.
+-- What comes of a script: the text that the command makes of it. For `check`, the report may be refused at its first bad
+-- line, and the verdict may find something wrong.
 pub data Answers (task : Task) (input : List ℕ) (s : ScriptValue) (status : Status) (answer : List ℕ) : Type 0 where
-  sims : task ≡ Sim → Sims s answer → status ≡ Ok → Answers task input s status answer
-  spends : task ≡ Sim → IsSpent s → status ≡ Spent → answer ≡ status_text status → Answers task input s status answer
+  sims : (generator_seed moves : ℕ) → task ≡ Sim generator_seed moves → Sims s generator_seed moves answer → status ≡ Ok → Answers task input s status answer
   replies : task ≡ One → Replies s answer → status ≡ Ok → Answers task input s status answer
   bad_report : task ≡ Check → (line : ℕ) → read_report (judged_report input) ≡ std.Err line → status ≡ BadReport line → answer ≡ status_text status → Answers task input s status answer
   legal : task ≡ Check → (j : Judges s input answer) → verdict s j.outcome ≡ verdicts.Legal → status ≡ Ok → Answers task input s status answer

@@ -1,9 +1,12 @@
 //! The forms of the command line.
 ghost use Rattle.std.specs.Prelude.{◌≡◌, map, string_bytes};
-ghost use Rattle.viommu.specs.Command.{alone, command_in, make_for, make_of, named, sim_of, word_is_zero};
+ghost use Rattle.viommu.specs.Command.{alone, command_in, make_for, make_of, named, sim_for, sim_of};
 ghost use Rattle.viommu.specs.Words.{number_of};
 
 use crate::words::number;
+
+/// How many turns of drawn actors a run has at most.
+pub const MOST_MOVES: u32 = 1_000_000;
 
 /// What the program is to do. The words of the command line are exactly those of its form.
 #[derive(Clone, Copy, Debug, PartialEq, Eq)]
@@ -17,8 +20,9 @@ pub enum Command {
 /// What is done with a script.
 #[derive(Clone, Copy, Debug, PartialEq, Eq)]
 pub enum Task {
-    /// `sim 0 0`: it is run, and the report of the run is written.
-    Sim,
+    /// `sim S T`: it is run, and the report of the run is written. S is the generator's seed, and T how
+    /// many turns are drawn, at most `MOST_MOVES`.
+    Sim { seed: u64, moves: u32 },
     /// `one`: the one-thread device without caches replies to its lines in the order of the text, and
     /// the report of its replies is written.
     One,
@@ -56,11 +60,27 @@ fn sim_of(behind: &[String]) -> Option<Command>
     ensures { result ≡ sim_of (map string_bytes behind.now) }
 {
     match behind {
-        [generator_seed, turns] if is_zero(generator_seed) && is_zero(turns) => Some(
-            Command::Script(Task::Sim),
+        [generator_seed, moves] => sim_for(
+            number(generator_seed.as_bytes()),
+            number(moves.as_bytes()),
         ),
         _ => None,
     }
+}
+
+/// `sim S T` by the numbers that stand for S and T, if they are numbers.
+fn sim_for(generator_seed: Option<u64>, moves: Option<u64>) -> Option<Command>
+    ensures { result ≡ sim_for generator_seed moves }
+{
+    let seed = generator_seed?;
+    let moves = moves?;
+    if moves > u64::from(MOST_MOVES) {
+        return None;
+    }
+    Some(Command::Script(Task::Sim {
+        seed,
+        moves: moves as u32,
+    }))
 }
 
 #[tactic(auto, using(crate::proofs::CommandLemmas::no_make))]
@@ -93,11 +113,4 @@ fn alone(task: Task, behind: &[String]) -> Option<Command>
     } else {
         None
     }
-}
-
-/// Whether the word is a number that is 0.
-fn is_zero(word: &str) -> bool
-    ensures { result ≡ word_is_zero word.now }
-{
-    number(word.as_bytes()) == Some(0)
 }

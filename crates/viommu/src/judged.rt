@@ -1,5 +1,6 @@
 //! The input of `check`: a script, the line `report`, and a report.
 ghost use Rattle.std.specs.Prelude.{◌≡◌, ◌≤◌, ◌+◌, MatchOption, MatchResult, IfOk, IsErr, Ok, None, length};
+ghost use Rattle.vi_script.specs.Fields.{HasFields};
 ghost use Rattle.vi_script.specs.Parsing.{Faults};
 ghost use Rattle.vi_script.specs.Valid.{IsValid};
 ghost use Rattle.vi_words.specs.Words.{lines_of_text};
@@ -59,6 +60,7 @@ pub fn judged(alloc: Global, input: &[u8]) -> Result<Script, ScriptFault>
     requires { length input.now ≤ CHECK_LIMIT }
     ensures read { MatchResult result (λ s. judged_script input.now ≡ Ok s) (λ e. Faults e (judged_script input.now)) }
     ensures valid { IfOk result IsValid }
+    ensures fields { IfOk result HasFields }
 {
     match cut(input) {
         Some(parts) => vi_script::parse(alloc, parts.script),

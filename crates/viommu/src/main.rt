@@ -14,7 +14,8 @@ mod list_source;
 mod one;
 mod output;
 mod outside;
-mod run;
+#[cfg(test)]
+mod sim_cases;
 mod standard;
 mod status;
 #[cfg(test)]

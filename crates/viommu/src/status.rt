@@ -26,15 +26,11 @@ pub enum Status {
     OutOfMemory,
     /// The report is refused at this line of its own, counted from 1.
     BadReport { line: u32 },
-    /// The budget of turns was made, and the work isn't finished.
-    Spent,
 }
 
-pub(crate) const USAGE: &[u8] = b"usage: viommu sim 0 0 | one | check | make N\n";
+pub(crate) const USAGE: &[u8] = b"usage: viommu sim S T | one | check | make N\n";
 
 pub(crate) const TOO_LONG: &[u8] = b"input too long\n";
-
-const SPENT: &[u8] = b"spent\n";
 
 impl Status {
     ghost use Rattle.viommu.specs.Status.{status_number, status_text};
@@ -52,7 +48,6 @@ impl Status {
             Status::WriteFault => 6,
             Status::Wrong => 7,
             Status::OutOfMemory => 8,
-            Status::Spent => 9,
             Status::BadReport { .. } => 10,
         }
     }
@@ -67,7 +62,6 @@ impl Status {
             Status::BadScript { line, kind } => bad_script(alloc, *line, *kind),
             Status::TooLong => Bytes::of(alloc, TOO_LONG),
             Status::BadReport { line } => bad_report(alloc, *line),
-            Status::Spent => Bytes::of(alloc, SPENT),
             _ => Ok(Bytes::new(alloc)),
         }
     }

@@ -7,6 +7,7 @@ use crate::list_sink::ListSink;
 use crate::list_source::ListSource;
 use crate::one::one_thread;
 use crate::output::write_text;
+use crate::sim_cases::{ALWAYS, SAME, SCHEDULES, SIM};
 use crate::standard::{Reading, Writing};
 use crate::status::Status;
 use crate::top::{INPUT_LIMIT, plain_top};
@@ -96,11 +97,12 @@ fn reports_and_refusals(rt: HostRuntime) -> Result<(), Fail> {
             b"bad script line 1: word\n",
         ),
         (
-            "sim 0 0",
-            b"memory 1\nqueue 16",
-            refused(2, BadKind::NotYet),
-            b"bad script line 2: notyet\n",
+            "sim 18446744073709551615 1000000",
+            b"memory 1\nqueue 17",
+            refused(2, BadKind::Limit),
+            b"bad script line 2: limit\n",
         ),
+        ("sim 7 20", FIRST, Status::Ok, FIRST_REPORT),
         ("one", FIRST, Status::Ok, FIRST_REPORT),
         (
             "one",
@@ -108,23 +110,31 @@ fn reports_and_refusals(rt: HostRuntime) -> Result<(), Fail> {
             refused(2, BadKind::Limit),
             b"bad script line 2: limit\n",
         ),
-        (
-            "one two",
-            FIRST,
-            Status::Usage,
-            b"usage: viommu sim 0 0 | one | check | make N\n",
-        ),
-        (
-            "sim 1 0",
-            FIRST,
-            Status::Usage,
-            b"usage: viommu sim 0 0 | one | check | make N\n",
-        ),
     ];
     for (line, input, want, text) in cases {
         let (status, taken) = ran(alloc, line, input, &[], 999, &[])?;
         assert_eq!(rt; status, want, "{line}");
         assert_eq!(rt; taken.as_slice(), text, "{line}");
+    }
+    Ok(())
+}
+
+#[test]
+fn other_words_are_no_form(rt: HostRuntime) -> Result<(), Fail> {
+    let alloc = rt.alloc();
+    let usage = b"usage: viommu sim S T | one | check | make N\n".as_slice();
+    let lines = [
+        "one two",
+        "sim",
+        "sim 1",
+        "sim 0 1000001",
+        "sim 18446744073709551616 0",
+        "sim 0 0 0",
+    ];
+    for line in lines {
+        let (status, taken) = ran(alloc, line, FIRST, &[], 999, &[])?;
+        assert_eq!(rt; status, Status::Usage, "{line}");
+        assert_eq!(rt; taken.as_slice(), usage, "{line}");
     }
     Ok(())
 }
@@ -158,6 +168,48 @@ fn is_written(alloc: Global, command: &str, case: &str) -> Result<bool, Fail> {
 fn one_replies_as_the_standard_says(rt: HostRuntime) -> Result<(), Fail> {
     for case in ONE.split("\ncase ") {
         assert!(rt; is_written(rt.alloc(), "one", case)?, "{case}");
+    }
+    Ok(())
+}
+
+#[test]
+fn sim_goes_by_the_schedule_of_the_script(rt: HostRuntime) -> Result<(), Fail> {
+    for case in SIM.split("\ncase ") {
+        assert!(rt; is_written(rt.alloc(), "sim 0 0", case)?, "{case}");
+    }
+    Ok(())
+}
+
+/// Whether the case has one of these names.
+fn is_named(case: &str, names: &[&str]) -> bool {
+    match case.split_once('\n') {
+        Some((head, _script)) => {
+            let name = head.strip_prefix("case ").unwrap_or(head);
+            names.iter().any(|n| *n == name)
+        }
+        None => false,
+    }
+}
+
+#[test]
+fn sim_replies_as_one_where_nothing_waits(rt: HostRuntime) -> Result<(), Fail> {
+    for case in ONE.split("\ncase ") {
+        if is_named(case, &SAME) {
+            assert!(rt; is_written(rt.alloc(), "sim 0 0", case)?, "{case}");
+        }
+    }
+    Ok(())
+}
+
+// Ten seeds, without drawn turns and with 500.
+#[test]
+fn sim_replies_as_one_under_every_schedule(rt: HostRuntime) -> Result<(), Fail> {
+    for case in ONE.split("\ncase ") {
+        if is_named(case, &ALWAYS) {
+            for words in SCHEDULES.split('\n') {
+                assert!(rt; is_written(rt.alloc(), words, case)?, "{words}: {case}");
+            }
+        }
     }
     Ok(())
 }
@@ -285,23 +337,22 @@ fn numbers_in_words(rt: HostRuntime) {
 fn status_numbers_and_texts(rt: HostRuntime) -> Result<(), Fail> {
     let refused = Status::BadScript {
         line: 10000,
-        kind: BadKind::NotYet,
+        kind: BadKind::Limit,
     };
     let cases = [
         (Status::Ok, 0, b"".as_slice()),
         (
             Status::Usage,
             2,
-            b"usage: viommu sim 0 0 | one | check | make N\n",
+            b"usage: viommu sim S T | one | check | make N\n",
         ),
-        (refused, 3, b"bad script line 10000: notyet\n"),
+        (refused, 3, b"bad script line 10000: limit\n"),
         (Status::TooLong, 4, b"input too long\n"),
         (Status::ReadFault, 5, b""),
         (Status::WriteFault, 6, b""),
         (Status::Wrong, 7, b""),
         (Status::OutOfMemory, 8, b""),
         (Status::BadReport { line: 12 }, 10, b"bad report line 12\n"),
-        (Status::Spent, 9, b"spent\n"),
     ];
     for (status, number, text) in cases {
         assert_eq!(rt; status.number(), number);

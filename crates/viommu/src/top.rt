@@ -9,7 +9,7 @@ ghost use Rattle.viommu.specs.Command.{command_in, IsForm};
 ghost use Rattle.viommu.specs.Input.{TakesAtMost};
 ghost use Rattle.viommu.specs.Output.{TakesProperPrefix};
 ghost use Rattle.viommu.specs.Status.{status_text};
-ghost use Rattle.viommu.specs.Top.{CutsText, Ends, IsBadReport, IsDoneWithin, IsFault, IsRefusedAt, IsRefusedWithin, IsSpentOn, IsTooLongPast, IsTooMuch, Writes, WritesVerdict, reads_up_to};
+ghost use Rattle.viommu.specs.Top.{CutsText, Ends, IsBadReport, IsDoneWithin, IsFault, IsRefusedAt, IsRefusedWithin, IsTooLongPast, IsTooMuch, Writes, WritesVerdict, reads_up_to};
 ghost use Rattle.viommu.specs.declared.command.Command.{Command};
 ghost use Rattle.viommu.specs.declared.command.Task.{Task};
 
@@ -72,9 +72,6 @@ pub fn plain_top<S: Source, K: Sink>(
         → (task_of (command_in words.now) ≡ Some Task.Check) × IsBadReport line (S.left source.old) (S.left source.new) }
     ensures wrong { result ≡ Status.Wrong → (task_of (command_in words.now) ≡ Some Task.Check)
         × WritesVerdict (S.left source.old) (S.left source.new) (K.taken sink.old) (K.taken sink.new) }
-
-    // With Spent the bytes are a script, the budget of rounds was made, and its lines aren't finished.
-    ensures spent { result ≡ Status.Spent → (task_of (command_in words.now) ≡ Some Task.Sim) × IsSpentOn (S.left source.old) (S.left source.new) }
 
     // A fault comes only where the source's or the sink's count of faults rose in this call.
     ensures read_fault { result ≡ Status.ReadFault
@@ -183,7 +180,7 @@ fn limit(task: Task) -> u32
     ensures { result ≡ limit_of task }
 {
     match task {
-        Task::Sim | Task::One => INPUT_LIMIT,
+        Task::Sim { .. } | Task::One => INPUT_LIMIT,
         Task::Check => CHECK_LIMIT,
     }
 }

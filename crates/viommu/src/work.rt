@@ -5,27 +5,26 @@ ghost use Rattle.vi_check.specs.Texts.{verdict_text};
 ghost use Rattle.vi_history.specs.Outcomes.{IsWellMade};
 ghost use Rattle.vi_report.specs.Texts.{text};
 ghost use Rattle.vi_report.specs.Types.{IsTyped};
+ghost use Rattle.vi_script.specs.Fields.{HasFields};
 ghost use Rattle.vi_script.specs.Parsing.{Faults};
 ghost use Rattle.vi_script.specs.Valid.{IsValid};
 ghost use Rattle.viommu.specs.Accepted.{accepts, limit_of};
-ghost use Rattle.viommu.specs.Runnable.{runnable};
 ghost use Rattle.viommu.specs.Status.{status_text};
 ghost use Rattle.viommu.specs.Top.{verdict_status};
 ghost use Rattle.viommu.specs.Work.{Answers, Does};
 ghost use Rattle.viommu.specs.declared.command.Task.{Task};
-ghost use Rattle.viommu.specs.declared.top.TheConstants.{CHECK_LIMIT, INPUT_LIMIT};
+ghost use Rattle.viommu.specs.declared.top.TheConstants.{CHECK_LIMIT};
 
 use crate::command::Task;
 use crate::judged::{judged, report_in};
 use crate::one::one_thread;
-use crate::run::outcome_of;
 use crate::status::Status;
 use std::alloc::{AllocError, Global};
 use vi_bytes::Bytes;
 use vi_check::{Verdict, check};
 use vi_history::Outcome;
 use vi_report::ReportFault;
-use vi_script::{BadKind, Script, ScriptFault};
+use vi_script::{Script, ScriptFault};
 
 /// A status, and the whole text that is written with it.
 #[derive(Debug, Drop)]
@@ -51,10 +50,10 @@ fn accepted(alloc: Global, task: Task, input: &[u8]) -> Result<Script, ScriptFau
     requires { length input.now ≤ limit_of task }
     ensures read { MatchResult result (λ s. accepts task input.now ≡ Ok s) (λ e. Faults e (accepts task input.now)) }
     ensures valid { IfOk result IsValid }
+    ensures fields { IfOk result HasFields }
 {
     match task {
-        Task::Sim => runnable(alloc, input),
-        Task::One => vi_script::parse(alloc, input),
+        Task::Sim { .. } | Task::One => vi_script::parse(alloc, input),
         Task::Check => judged(alloc, input),
     }
 }
@@ -62,11 +61,12 @@ fn accepted(alloc: Global, task: Task, input: &[u8]) -> Result<Script, ScriptFau
 /// What comes of a script. An error is want of memory.
 fn answer_to(alloc: Global, task: Task, input: &[u8], script: Script) -> Result<Answer, AllocError>
     requires valid { IsValid script }
+    requires fields { HasFields script }
     requires within { length input.now ≤ CHECK_LIMIT }
     ensures { IfOk result (λ answer. Answers task input.now script answer.status answer.text) }
 {
     match task {
-        Task::Sim => sim(alloc, script),
+        Task::Sim { seed, moves } => sim(alloc, script, seed, moves),
         Task::One => one(alloc, &script),
         Task::Check => judge(alloc, input, &script),
     }
@@ -108,15 +108,15 @@ fn status_of(verdict: &Verdict) -> Status
     }
 }
 
-/// Runs the script, and reports the run. An error is want of memory.
-fn sim(alloc: Global, script: Script) -> Result<Answer, AllocError>
-    requires { IsValid script }
-    ensures { (input : List ℕ) → IfOk result (λ answer. Answers Task.Sim input script answer.status answer.text) }
+/// Runs the script under the schedule of the seed, with so many drawn turns, and reports the run. An error is
+/// want of memory.
+fn sim(alloc: Global, script: Script, seed: u64, moves: u32) -> Result<Answer, AllocError>
+    requires valid { IsValid script }
+    requires fields { HasFields script }
+    ensures { (input : List ℕ) → IfOk result (λ answer. Answers (Task.Sim seed moves) input script answer.status answer.text) }
 {
-    match outcome_of(alloc, script)? {
-        Some(outcome) => report(alloc, &outcome),
-        None => refusal(alloc, Status::Spent),
-    }
+    let outcome = vi_sim::sim(alloc, script, seed, moves)?;
+    report(alloc, &outcome)
 }
 
 /// Reports the replies of the one-thread device. An error is want of memory.
@@ -139,23 +139,6 @@ fn report(alloc: Global, outcome: &Outcome) -> Result<Answer, AllocError>
         status: Status::Ok,
         text: vi_report::text(alloc, outcome)?,
     })
-}
-
-/// The script that the input is, which has no line that isn't run yet, or why there is none.
-#[tactic(auto, unfolding(crate::specs::Runnable::runnable))]
-fn runnable(alloc: Global, input: &[u8]) -> Result<Script, ScriptFault>
-    requires { length input.now ≤ INPUT_LIMIT }
-    ensures read { MatchResult result (λ s. runnable input.now ≡ Ok s) (λ e. Faults e (runnable input.now)) }
-    ensures valid { IfOk result IsValid }
-{
-    let script = vi_script::parse(alloc, input)?;
-    match vi_script::not_built(input) {
-        Some(line) => Err(ScriptFault::Bad {
-            line,
-            kind: BadKind::NotYet,
-        }),
-        None => Ok(script),
-    }
 }
 
 /// A status with its own text.

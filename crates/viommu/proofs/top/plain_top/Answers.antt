@@ -1,5 +1,5 @@
 use Rattle.viommu.proofs.CommandLemmas.{command_in-form}
-use Rattle.viommu.proofs.EndLemmas.{usage_only, usage_or_fault, past_only, too_long_or_fault, text_written, script_written, made_or_fault, done_or_fault, refused_only, refused_or_fault, report_refused, verdict_written, spent_only, read_fault_rose, write_fault_rose, refusal_text, text_cut}
+use Rattle.viommu.proofs.EndLemmas.{usage_only, usage_or_fault, past_only, too_long_or_fault, text_written, script_written, made_or_fault, done_or_fault, refused_only, refused_or_fault, report_refused, verdict_written, read_fault_rose, write_fault_rose, refusal_text, text_cut}
 use Rattle.viommu.proofs.top.plain_top.Goals as goal
 
 pub carry_out-requires : goal.carry_out-requires
@@ -40,9 +40,6 @@ returns-clause-bad_report g c = rw (← c.parse.ensures) (report_refused _ _ _ _
 
 pub returns-clause-wrong : goal.returns-clause-wrong
 returns-clause-wrong g c = rw (← c.parse.ensures) (verdict_written _ _ _ _ c.carry_out.ensures.ends)
-
-pub returns-clause-spent : goal.returns-clause-spent
-returns-clause-spent g c = rw (← c.parse.ensures) (spent_only _ _ _ _ c.carry_out.ensures.ends)
 
 pub returns-clause-read_fault : goal.returns-clause-read_fault
 returns-clause-read_fault g c = read_fault_rose _ _ _ _ c.carry_out.ensures.ends

@@ -1,0 +1,5 @@
+pub mod Drawn
+pub mod Finished
+pub mod Runs
+pub mod Simulated
+pub mod Whose

@@ -1,0 +1,13 @@
+//! A script's run under a schedule that is stated beforehand: the script's own turns, then turns of actors that a
+//! generator draws from a seed, and then rounds of one turn of each actor until every line is finished.
+#![tactic(auto)]
+
+mod draw;
+mod round;
+mod schedule;
+
+pub use round::actors;
+pub use schedule::sim;
+
+#[cfg(test)]
+mod tests;
