@@ -215,6 +215,15 @@ fn sim_replies_as_one_under_every_schedule(rt: HostRuntime) -> Result<(), Fail> 
 }
 
 #[test]
+fn sim_ends_on_a_load_script(rt: HostRuntime) -> Result<(), Fail> {
+    let alloc = rt.alloc();
+    let (_, script) = ran(alloc, "make 20", b"", &[], 99999, &[])?;
+    let (status, _report) = ran(alloc, "sim 7 1000", script.as_slice(), &[], 99999, &[])?;
+    assert_eq!(rt; status, Status::Ok);
+    Ok(())
+}
+
+#[test]
 fn check_gives_its_verdicts(rt: HostRuntime) -> Result<(), Fail> {
     for case in CHECK.split("\ncase ") {
         assert!(rt; is_written(rt.alloc(), "check", case)?, "{case}");
