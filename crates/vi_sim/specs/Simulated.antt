@@ -13,19 +13,19 @@ use Rattle.vi_sim.specs.Schedule.{draws, round_bound}
 
 -- the world of a script after its own turns and the drawn ones
 abbrev pub drawn_world : ScriptValue → ℕ → ℕ → World
-drawn_world s seed moves = run s (run s (opening s) s.turns) (draws s seed moves)
+drawn_world s generator_seed moves = run s (run s (opening s) s.turns) (draws s generator_seed moves)
 
 -- the world of a script after its own turns, the drawn ones and rounds until all is finished
 unfoldable pub simulated_world : ScriptValue → ℕ → ℕ → World
-simulated_world s seed moves = rounds s (drawn_world s seed moves) (round_bound s)
+simulated_world s generator_seed moves = rounds s (drawn_world s generator_seed moves) (round_bound s)
 
 -- what a simulated run comes to
 unfoldable pub simulated : ScriptValue → ℕ → ℕ → Outcome
-simulated s seed moves = outcome_of (simulated_world s seed moves)
+simulated s generator_seed moves = outcome_of (simulated_world s generator_seed moves)
 
 -- its history
 abbrev pub simulated_history : ScriptValue → ℕ → ℕ → List Entry
-simulated_history s seed moves = let o : Outcome = simulated s seed moves in o.entries
+simulated_history s generator_seed moves = let o : Outcome = simulated s generator_seed moves in o.entries
 
 -- a run, so many drawn turns later
 abbrev pub after_draws : Running → ℕ → ℕ → Running

@@ -16,34 +16,39 @@ use vi_history::Outcome;
 use vi_script::{Script, Who};
 
 /// The outcome of a script's run: first its own turns, then `moves` turns of actors that the generator draws from
-/// `seed` on, then rounds of one turn of each actor until all lines are finished. An error is want of memory.
+/// `generator_seed` on, then rounds of one turn of each actor until all lines are finished. An error is want of memory.
 #[tactic(auto, using(crate::proofs::Simulated::simulated_finished, crate::proofs::Simulated::simulated_ordered, crate::proofs::Simulated::simulated_legal, crate::proofs::Simulated::simulated_records))]
-pub fn sim(alloc: Global, script: Script, seed: u64, moves: u32) -> Result<Outcome, AllocError>
+pub fn sim(
+    alloc: Global,
+    script: Script,
+    generator_seed: u64,
+    moves: u32,
+) -> Result<Outcome, AllocError>
     requires { IsPlayable script }
-    ensures outcome { IfOk result (λ o. o ≡ simulated script seed moves) }
+    ensures outcome { IfOk result (λ o. o ≡ simulated script generator_seed moves) }
     ensures made { IfOk result IsWellMade }
     // every line is finished within the bound on rounds
-    ensures finished { is_finished script (simulated_world script seed moves) ≡ true }
+    ensures finished { is_finished script (simulated_world script generator_seed moves) ≡ true }
     // the history is in order, each answer is the one-thread device's, and its fault records are shown well
-    ensures ordered { IsOrdered script (simulated_history script seed moves) }
-    ensures legal { IsLegalHistory script (simulated_history script seed moves) }
-    ensures records { HasRecords script (simulated script seed moves) }
+    ensures ordered { IsOrdered script (simulated_history script generator_seed moves) }
+    ensures legal { IsLegalHistory script (simulated_history script generator_seed moves) }
+    ensures records { HasRecords script (simulated script generator_seed moves) }
 {
     let round = actors(alloc, &script)?;
     let turns = Vec::from_slice(alloc, script.turns.as_slice())?;
     let mut world = World::build(alloc, script)?;
     world.run(&turns);
-    take_draws(&mut world, &round, seed, moves);
+    take_draws(&mut world, &round, generator_seed, moves);
     finish(&mut world, &round);
     world.outcome(alloc)
 }
 
 /// So many turns of actors of the round that the generator draws, after this draw.
-fn take_draws(world: &mut World, round: &[Who], seed: u64, moves: u32)
+fn take_draws(world: &mut World, round: &[Who], generator_seed: u64, moves: u32)
     requires { round.now ≡ rounds.actors world.old.script }
-    ensures { world.new ≡ after_draws world.old seed moves }
+    ensures { world.new ≡ after_draws world.old generator_seed moves }
 {
-    let mut draw = seed;
+    let mut draw = generator_seed;
     for number in 0..moves {
         draw = next_draw(draw);
         let _turned = world.turn(picked(round, draw));

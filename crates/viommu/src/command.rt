@@ -20,9 +20,9 @@ pub enum Command {
 /// What is done with a script.
 #[derive(Clone, Copy, Debug, PartialEq, Eq)]
 pub enum Task {
-    /// `sim S T`: it is run, and the report of the run is written. S is the generator's seed, and T how
+    /// `sim S T`: it is run, and the report of the run is written. S is what the generator begins with, and T how
     /// many turns are drawn, at most `MOST_MOVES`.
-    Sim { seed: u64, moves: u32 },
+    Sim { generator_seed: u64, moves: u32 },
     /// `one`: the one-thread device without caches replies to its lines in the order of the text, and
     /// the report of its replies is written.
     One,
@@ -72,13 +72,13 @@ fn sim_of(behind: &[String]) -> Option<Command>
 fn sim_for(generator_seed: Option<u64>, moves: Option<u64>) -> Option<Command>
     ensures { result ≡ sim_for generator_seed moves }
 {
-    let seed = generator_seed?;
+    let generator_seed = generator_seed?;
     let moves = moves?;
     if moves > u64::from(MOST_MOVES) {
         return None;
     }
     Some(Command::Script(Task::Sim {
-        seed,
+        generator_seed,
         moves: moves as u32,
     }))
 }

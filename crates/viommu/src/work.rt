@@ -66,7 +66,10 @@ fn answer_to(alloc: Global, task: Task, input: &[u8], script: Script) -> Result<
     ensures { IfOk result (λ answer. Answers task input.now script answer.status answer.text) }
 {
     match task {
-        Task::Sim { seed, moves } => sim(alloc, script, seed, moves),
+        Task::Sim {
+            generator_seed,
+            moves,
+        } => sim(alloc, script, generator_seed, moves),
         Task::One => one(alloc, &script),
         Task::Check => judge(alloc, input, &script),
     }
@@ -108,14 +111,14 @@ fn status_of(verdict: &Verdict) -> Status
     }
 }
 
-/// Runs the script under the schedule of the seed, with so many drawn turns, and reports the run. An error is
-/// want of memory.
-fn sim(alloc: Global, script: Script, seed: u64, moves: u32) -> Result<Answer, AllocError>
+/// Runs the script under the schedule that is drawn from `generator_seed`, with so many drawn turns, and reports the
+/// run. An error is want of memory.
+fn sim(alloc: Global, script: Script, generator_seed: u64, moves: u32) -> Result<Answer, AllocError>
     requires valid { IsValid script }
     requires fields { HasFields script }
-    ensures { (input : List ℕ) → IfOk result (λ answer. Answers (Task.Sim seed moves) input script answer.status answer.text) }
+    ensures { (input : List ℕ) → IfOk result (λ answer. Answers (Task.Sim generator_seed moves) input script answer.status answer.text) }
 {
-    let outcome = vi_sim::sim(alloc, script, seed, moves)?;
+    let outcome = vi_sim::sim(alloc, script, generator_seed, moves)?;
     report(alloc, &outcome)
 }
 

@@ -8,4 +8,4 @@ sim-requires c = valid_is_playable c.args.script c.requires.valid c.requires.fie
 pub returns : goal.returns
 returns c = λ input.
     let run = c.in_ok-outcome.ensures in
-    answers-sims input c.args.script c.args.seed c.args.moves c.in_ok-outcome.outcome c.report.result run.outcome run.made run.ordered run.legal run.records c.report.ensures.status c.report.ensures.text c.report.ensures.typed
+    answers-sims input c.args.script c.args.generator_seed c.args.moves c.in_ok-outcome.outcome c.report.result run.outcome run.made run.ordered run.legal run.records c.report.ensures.status c.report.ensures.text c.report.ensures.typed
