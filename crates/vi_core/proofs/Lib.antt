@@ -20,3 +20,4 @@ pub mod Ending
 pub mod Reading
 pub mod Ran
 pub mod Well
+pub mod Whose

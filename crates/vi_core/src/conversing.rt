@@ -13,18 +13,19 @@ ghost use Rattle.vi_control.specs.Calls.{IsCaller};
 ghost use Rattle.vi_core.specs.BackTurns.{HasConverseRoom, IsBacksTurn, IsBacksAccess, HasAsked, HasReceived, turned_by, after_posting, after_answer, after_hearing, hearing_moves};
 
 use crate::Turned;
+use crate::gate::{Gate, Point};
 use crate::posted::are_posted;
 use vi_backend::{Backend, Done, Wish};
 use vi_control::Control;
 use vi_history::Caller;
 use vi_iotlb::Frame;
 use vi_memory::Page;
-use vi_script::Await;
+use vi_script::{Await, Who};
 
 /// The turn of the back end at this place, where it doesn't wish for an access: it posts how many of
 /// its lines are finished, and asks for a translation, or takes a frame where one is under way. An access waits here.
-/// It takes no memory.
-pub fn converse(control: &mut Control, place: u32, back: &mut Backend) -> Turned
+/// It passes the gate when it has carried an Invalidate out. It takes no memory.
+pub fn converse<G: Gate>(control: &mut Control, place: u32, back: &mut Backend, gate: &G) -> Turned
     requires room { HasConverseRoom control.old.plan control.old.state place back.old }
     ensures turn { IsBacksTurn place control.old control.new back.old back.new result }
     ensures own { IsOwn back.new }
@@ -37,8 +38,8 @@ pub fn converse(control: &mut Control, place: u32, back: &mut Backend) -> Turned
             ask(control, place, back, &frame);
             Turned::Moved
         }
-        Wish::Receive => turned(receive(control, place, back), Turned::Waiting),
-        Wish::Rest => turned(receive(control, place, back), Turned::Rest),
+        Wish::Receive => turned(receive(control, place, back, gate), Turned::Waiting),
+        Wish::Rest => turned(receive(control, place, back, gate), Turned::Rest),
     }
 }
 
@@ -78,7 +79,7 @@ fn ask(control: &mut Control, place: u32, back: &mut Backend, frame: &Frame)
 }
 
 // It takes a frame, if one is under way.
-fn receive(control: &mut Control, place: u32, back: &mut Backend) -> bool
+fn receive<G: Gate>(control: &mut Control, place: u32, back: &mut Backend, gate: &G) -> bool
     requires room { HasConverseRoom control.old.plan control.old.state place back.old }
     ensures exchange { HasReceived place control.old control.new back.old back.new result }
     ensures own { IsOwn back.new }
@@ -89,14 +90,14 @@ fn receive(control: &mut Control, place: u32, back: &mut Backend) -> bool
     match control.receive(place) {
         None => hear(control, back),
         Some(frame) => {
-            take(control, place, back, &frame);
+            take(control, place, back, &frame, gate);
             true
         }
     }
 }
 
 // It takes this frame, and answers it.
-fn take(control: &mut Control, place: u32, back: &mut Backend, frame: &Frame)
+fn take<G: Gate>(control: &mut Control, place: u32, back: &mut Backend, frame: &Frame, gate: &G)
     requires caller { IsCaller control.old.plan.ids (Back back.old.id) }
     requires place { place < length control.old.plan.ids }
     requires sendable { IsSendable frame.now }
@@ -108,6 +109,7 @@ fn take(control: &mut Control, place: u32, back: &mut Backend, frame: &Frame)
 {
     control.post(Caller::Back(back.id()), back.finished());
     if let Some(answer) = back.got(frame) {
+        gate.pass(Who::Back(back.id()), Point::Dropped);
         control.send(place, &answer);
     }
 }

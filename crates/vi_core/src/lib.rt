@@ -5,6 +5,7 @@
 
 mod conversing;
 mod driving;
+mod gate;
 mod history;
 pub mod laws;
 mod opening;
@@ -12,6 +13,7 @@ mod outcome;
 mod posted;
 mod reader;
 mod room;
+mod round;
 mod serving;
 #[cfg(test)]
 mod tests;
@@ -20,7 +22,12 @@ mod world;
 
 pub use conversing::{converse, reach};
 pub use driving::drive;
+pub use gate::{Free, Gate, Point};
+pub use opening::pages_of;
+pub use outcome::outcome_of;
 pub use reader::read_event;
+pub use room::{byte_room, entry_room};
+pub use round::actors;
 pub use serving::{Served, serve};
 pub use turned::Turned;
 pub use world::World;

@@ -3,24 +3,22 @@ ghost use Rattle.std.specs.Prelude.{◌≡◌, ◌<◌, ◌^◌, [], ◌∷◌, 
 ghost use Rattle.vi_history.specs.Kinds.{is_fault};
 ghost use Rattle.vi_core.specs.Outcomes.{fault_numbers, named_by};
 
-use crate::history::History;
 use std::alloc::{AllocError, Global};
 use vi_bytes::Items;
 use vi_history::{Entry, Kind, Outcome, Shown};
 
-/// The outcome of a run with this history, these delivered records, which have the numbers of their
+/// The outcome of a run with these entries in order, these delivered records, which have the numbers of their
 /// faults, and so many that were dropped: each record gets the number of its entry. An error is want
 /// of memory.
-pub(crate) fn outcome(
+pub fn outcome_of(
     alloc: Global,
-    history: &History,
+    entries: Vec<Entry>,
     shown: &[Shown],
     dropped: u32,
 ) -> Result<Outcome, AllocError>
-    requires { length history.now.entries < 2 ^ 32 }
-    ensures { IfOk result (λ o. o ≡ record { entries = history.now.entries; shown = map (named_by (fault_numbers 1 history.now.entries)) shown.now; dropped = dropped }) }
+    requires { length entries.items < 2 ^ 32 }
+    ensures { IfOk result (λ o. o ≡ record { entries = entries.items; shown = map (named_by (fault_numbers 1 entries.items)) shown.now; dropped = dropped }) }
 {
-    let entries = history.entries(alloc)?;
     let numbers = fault_numbers(alloc, &entries)?;
     let shown = named(alloc, &numbers, shown)?;
     Ok(Outcome {

@@ -5,8 +5,10 @@ ghost use Rattle.vi_control.specs.Rooms.{HasRoom};
 ghost use Rattle.vi_core.specs.DeviceTurns.{IsDevicesTurn};
 
 use crate::Turned;
+use crate::gate::{Gate, Point};
 use vi_control::{Control, Work};
 use vi_history::Mark;
+use vi_script::Who;
 
 /// What a turn of the device did, and the mark of the entry that it made, if it made one.
 #[derive(Clone, Copy, Debug, PartialEq, Eq)]
@@ -15,9 +17,9 @@ pub struct Served {
     pub mark: Option<Mark>,
 }
 
-/// The device's turn: the first work that there is, or it waits. The entry's bytes are the control's `answered`. It takes
-/// no memory.
-pub fn serve(control: &mut Control) -> Served
+/// The device's turn: the first work that there is, or it waits. The entry's bytes are the control's `answered`. It
+/// passes the gate when it has begun a removal that waits for back ends. It takes no memory.
+pub fn serve<G: Gate>(control: &mut Control, gate: &G) -> Served
     requires { HasRoom control.old }
     ensures turn { IsDevicesTurn control.old control.new result }
     ensures plan { control.new.plan ≡ control.old.plan }
@@ -30,9 +32,19 @@ pub fn serve(control: &mut Control) -> Served
         Work::Finish => moved(Some(control.finish())),
         Work::Parked(_) => moved(control.serve()),
         Work::Frame(_) => moved(control.serve()),
-        Work::Request => moved(control.start()),
-        Work::Bypass(_) => moved(control.start()),
+        Work::Request => moved(watched(control.start(), gate)),
+        Work::Bypass(_) => moved(watched(control.start(), gate)),
     }
+}
+
+// What was started with no entry is a removal that waits.
+fn watched<G: Gate>(mark: Option<Mark>, gate: &G) -> Option<Mark>
+    ensures { result ≡ mark }
+{
+    if mark.is_none() {
+        gate.pass(Who::Device, Point::OpOpen);
+    }
+    mark
 }
 
 fn moved(mark: Option<Mark>) -> Served

@@ -17,9 +17,10 @@ ghost use Rattle.vi_core.specs.Well.{IsAnsweredAtOnce, IsWell};
 
 use crate::conversing::{converse, reach};
 use crate::driving::drive;
+use crate::gate::Free;
 use crate::history::History;
 use crate::opening::{backs_of, drivers_of, pages_of};
-use crate::outcome::outcome;
+use crate::outcome::outcome_of;
 use crate::reader::read_event;
 use crate::room::{byte_room, entry_room};
 use crate::serving::serve;
@@ -139,12 +140,8 @@ impl World {
         ensures outcome { IfOk result (λ o. o ≡ outcome_of self.world) }
         ensures made { IfOk result IsWellMade }
     {
-        outcome(
-            alloc,
-            &self.history,
-            self.control.shown(),
-            self.control.dropped(),
-        )
+        let entries = self.history.entries(alloc)?;
+        outcome_of(alloc, entries, self.control.shown(), self.control.dropped())
     }
 
     fn driver_turn(&mut self, number: u8) -> Turned
@@ -171,14 +168,19 @@ impl World {
                     .push(done.mark, bytes.read(done.from, done.len));
                 Turned::Moved
             }
-            None => converse(&mut self.control, place as u32, &mut self.backs[place]),
+            None => converse(
+                &mut self.control,
+                place as u32,
+                &mut self.backs[place],
+                &Free,
+            ),
         }
     }
 
     fn device_turn(&mut self) -> Turned
         ensures { HasTurned who.Device self.old self.new result }
     {
-        let served = serve(&mut self.control);
+        let served = serve(&mut self.control, &Free);
         if let Some(mark) = served.mark {
             self.history.push(mark, self.control.answered());
         }

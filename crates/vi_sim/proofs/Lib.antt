@@ -2,4 +2,3 @@ pub mod Drawn
 pub mod Finished
 pub mod Runs
 pub mod Simulated
-pub mod Whose

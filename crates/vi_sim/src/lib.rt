@@ -3,10 +3,8 @@
 #![tactic(auto)]
 
 mod draw;
-mod round;
 mod schedule;
 
-pub use round::actors;
 pub use schedule::sim;
 
 #[cfg(test)]

@@ -9,9 +9,8 @@ ghost use Rattle.vi_model.specs.Rounds.{is_finished};
 ghost use Rattle.vi_sim.specs.Simulated.{after_draws, after_rounds, simulated, simulated_history, simulated_world};
 
 use crate::draw::{next_draw, picked};
-use crate::round::actors;
 use std::alloc::{AllocError, Global};
-use vi_core::World;
+use vi_core::{World, actors};
 use vi_history::Outcome;
 use vi_script::{Script, Who};
 

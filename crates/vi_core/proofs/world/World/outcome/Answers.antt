@@ -1,6 +1,8 @@
-use Rattle.std.proofs.Common.{ap₂, subst, sym, ◌∙◌, map}
+use Rattle.std.proofs.Common.{ℕ, ◌<◌, ◌^◌, List, length, ap, ap₂, subst, sym, ◌∙◌, map}
 use Rattle.vi_history.specs.Outcomes.{IsWellMade}
+use Rattle.vi_history.specs.declared.entry.Entry.{Entry}
 use Rattle.vi_history.specs.declared.outcome.Outcome.{Outcome}
+use Rattle.vi_history.specs.declared.outcome.Shown.{Shown}
 use Rattle.vi_core.specs.Inner.{parts_of}
 use Rattle.vi_core.specs.Parts.{world_of}
 use Rattle.vi_core.specs.Outcomes.{fault_numbers, named_by}
@@ -8,12 +10,18 @@ use Rattle.vi_core.proofs.OutcomeLaws.{outcome_made}
 use Rattle.vi_core.proofs.Ending.{ok_also}
 use Rattle.vi_core.proofs.world.World.outcome.Goals as goal
 
-pub outcome-requires : goal.outcome-requires
-outcome-requires c = (outcome_made c.self.inside.script (world_of (parts_of c.self.inside)) c.self.invariant.playable c.self.invariant.sound).few
+-- the outcome with these entries, records and this number of dropped ones
+abbrev made_of : List Entry → List Shown → ℕ → Outcome
+made_of entries shown dropped = record { entries = entries; shown = map (named_by (fault_numbers 1 entries)) shown; dropped = dropped }
+
+pub outcome_of-requires : goal.outcome_of-requires
+outcome_of-requires c =
+    subst (λ (es : List Entry). length es < 2 ^ 32) (sym c.in_ok-entries.ensures)
+    (outcome_made c.self.inside.script (world_of (parts_of c.self.inside)) c.self.invariant.playable c.self.invariant.sound).few
 
 pub returns-clause-made : goal.returns-clause-made
 returns-clause-made c =
-    ok_also c.outcome.result (λ o is.
+    ok_also c.outcome_of.result (λ o is.
     subst IsWellMade
-    (sym (is ∙ ap₂ (λ xs n. let x : Outcome = record { entries = c.self.inside.history.entries; shown = map (named_by (fault_numbers 1 c.self.inside.history.entries)) xs; dropped = n } in x) c.shown.ensures c.dropped.ensures))
-    (outcome_made c.self.inside.script (world_of (parts_of c.self.inside)) c.self.invariant.playable c.self.invariant.sound)) c.outcome.ensures
+    (sym (is ∙ ap (λ (es : List Entry). made_of es c.shown.result.now c.dropped.result) c.in_ok-entries.ensures ∙ ap₂ (made_of c.self.inside.history.entries) c.shown.ensures c.dropped.ensures))
+    (outcome_made c.self.inside.script (world_of (parts_of c.self.inside)) c.self.invariant.playable c.self.invariant.sound)) c.outcome_of.ensures

@@ -2,9 +2,9 @@ use Rattle.std.proofs.Common.{arith, ◌≡◌, ◌++◌, ◌+◌, ◌<◌, ◌�
 use Rattle.std.specs.Prelude.{nat_lt}
 use Rattle.std.proofs.lemmas.Bool.Decides.{nat_tests}
 use Rattle.vi_model.specs.Rounds.{has_lines}
-use Rattle.vi_sim.proofs.Whose.{drivers_from, driver_pushed, driver_skipped}
-use Rattle.vi_sim.proofs.round.push_drivers.Goals as goal
-use Rattle.vi_sim.proofs.round.push_drivers.Goals.{then-count-gt0+in_ok-push, else-count-gt0}
+use Rattle.vi_core.proofs.Whose.{drivers_from, driver_pushed, driver_skipped}
+use Rattle.vi_core.proofs.round.push_drivers.Goals as goal
+use Rattle.vi_core.proofs.round.push_drivers.Goals.{then-count-gt0+in_ok-push, else-count-gt0}
 
 some : (n m : ℕ) → n ≡ m → 0 < n → nat_lt 0 m ≡ true
 some n m e h = grind (arith, nat_tests)
