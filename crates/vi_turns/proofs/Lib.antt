@@ -1,0 +1,10 @@
+pub mod Getting
+pub mod Actors
+pub mod Basics
+pub mod Seats
+pub mod Wins
+pub mod Changes
+pub mod Stamps
+pub mod Gives
+pub mod Ends
+pub mod Closing
