@@ -10,6 +10,8 @@ mod pass;
 mod rule;
 mod shared;
 mod slot;
+#[cfg(test)]
+mod tests;
 mod view;
 
 pub use closed::Closed;
