@@ -1,0 +1,14 @@
+pub mod Conversing
+pub mod Driving
+pub mod Ending
+pub mod Joining
+pub mod Keeping
+pub mod LogRoom
+pub mod Members
+pub mod Opening
+pub mod Outcome
+pub mod Reaching
+pub mod Reading
+pub mod Serving
+pub mod Stamped
+pub mod Won

@@ -1,0 +1,5 @@
+pub mod Actors
+pub mod Taking
+pub mod Turns
+pub mod Roles
+pub mod Runs
