@@ -12,6 +12,8 @@ mod ran;
 mod reader;
 mod role;
 mod running;
+#[cfg(test)]
+mod tests;
 
 pub use actor::Actor;
 pub use finished::Finished;
