@@ -10,3 +10,6 @@ pub mod ReplyLemmas
 pub mod OneLemmas
 pub mod CountLemmas
 pub mod JudgedLemmas
+pub mod ThreadLemmas
+pub mod RunLemmas
+pub mod LoadLemmas

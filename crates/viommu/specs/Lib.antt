@@ -15,3 +15,5 @@ pub mod OneThread
 pub mod Accepted
 pub mod Judged
 pub mod Cuts
+pub mod Threads
+pub mod Running

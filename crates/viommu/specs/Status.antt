@@ -34,7 +34,7 @@ bad_report_text line = line_of (codes "bad report line " ++ decimal line)
 -- or want of memory none.
 abbrev pub status_text : Status → List ℕ
 status_text Ok = []
-status_text Usage = line_of (codes "usage: viommu sim S T | one | check | make N")
+status_text Usage = line_of (codes "usage: viommu run W | sim S T | one | check | make N | load N W")
 status_text (BadScript line kind) = bad_script_text line kind
 status_text TooLong = line_of (codes "input too long")
 status_text ReadFault = []

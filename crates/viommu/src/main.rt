@@ -15,11 +15,15 @@ mod one;
 mod output;
 mod outside;
 #[cfg(test)]
+mod run_tests;
+mod running;
+#[cfg(test)]
 mod sim_cases;
 mod standard;
 mod status;
 #[cfg(test)]
 mod tests;
+mod threaded;
 mod top;
 mod words;
 mod work;
@@ -30,12 +34,13 @@ use std::alloc::AllocError;
 use std::env;
 use std::process::ExitCode;
 use std::rt::Env;
+use vi_run::Free;
 
 fn main(rt: HostRuntime) -> ExitCode {
     let mut source = Reading::new(rt.stdin());
     let mut sink = Writing::new(rt.stdout());
     let status = match read_words(&rt) {
-        Ok(words) => top::plain_top(rt.alloc(), &words, &mut source, &mut sink),
+        Ok(words) => running::top(&rt, rt.alloc(), &words, &mut source, &mut sink, &Free).status,
         Err(AllocError) => Status::OutOfMemory,
     };
     ExitCode::from(status.number())

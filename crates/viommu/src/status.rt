@@ -28,7 +28,8 @@ pub enum Status {
     BadReport { line: u32 },
 }
 
-pub(crate) const USAGE: &[u8] = b"usage: viommu sim S T | one | check | make N\n";
+pub(crate) const USAGE: &[u8] =
+    b"usage: viommu run W | sim S T | one | check | make N | load N W\n";
 
 pub(crate) const TOO_LONG: &[u8] = b"input too long\n";
 

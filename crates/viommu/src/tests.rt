@@ -20,7 +20,7 @@ use vi_make::{make, summary};
 use vi_script::{BadKind, parse};
 
 /// The words of a command line that is split at spaces.
-fn split(alloc: Global, line: &str) -> Result<Vec<String>, Fail> {
+pub(crate) fn split(alloc: Global, line: &str) -> Result<Vec<String>, Fail> {
     let mut words = Vec::new(alloc);
     for word in line.split(' ') {
         words.push(String::from_str(alloc, word)?)?;
@@ -52,7 +52,7 @@ end
 ";
 
 /// A source of these bytes, and a sink with so much room, both with at most 16 bytes a call.
-fn outside(
+pub(crate) fn outside(
     alloc: Global,
     input: &[u8],
     read_fails: &[u32],
@@ -65,7 +65,7 @@ fn outside(
 }
 
 /// What a call comes to: the status, and what the sink took.
-fn ran(
+pub(crate) fn ran(
     alloc: Global,
     line: &str,
     input: &[u8],
@@ -122,7 +122,7 @@ fn reports_and_refusals(rt: HostRuntime) -> Result<(), Fail> {
 #[test]
 fn other_words_are_no_form(rt: HostRuntime) -> Result<(), Fail> {
     let alloc = rt.alloc();
-    let usage = b"usage: viommu sim S T | one | check | make N\n".as_slice();
+    let usage = b"usage: viommu run W | sim S T | one | check | make N | load N W\n".as_slice();
     let lines = [
         "one two",
         "sim",
@@ -140,7 +140,7 @@ fn other_words_are_no_form(rt: HostRuntime) -> Result<(), Fail> {
 }
 
 /// The bytes without their last LF.
-fn trimmed(bytes: &[u8]) -> &[u8] {
+pub(crate) fn trimmed(bytes: &[u8]) -> &[u8] {
     match bytes.strip_suffix(b"\n") {
         Some(front) => front,
         None => bytes,
@@ -148,7 +148,7 @@ fn trimmed(bytes: &[u8]) -> &[u8] {
 }
 
 /// The script of a case, behind its name.
-fn script_of(head: &str) -> &str {
+pub(crate) fn script_of(head: &str) -> &str {
     match head.split_once('\n') {
         Some((_name, script)) => script,
         None => "",
@@ -181,7 +181,7 @@ fn sim_goes_by_the_schedule_of_the_script(rt: HostRuntime) -> Result<(), Fail> {
 }
 
 /// Whether the case has one of these names.
-fn is_named(case: &str, names: &[&str]) -> bool {
+pub(crate) fn is_named(case: &str, names: &[&str]) -> bool {
     match case.split_once('\n') {
         Some((head, _script)) => {
             let name = head.strip_prefix("case ").unwrap_or(head);
@@ -201,7 +201,7 @@ fn sim_replies_as_one_where_nothing_waits(rt: HostRuntime) -> Result<(), Fail> {
     Ok(())
 }
 
-// Ten seeds, without drawn turns and with 500.
+// Ten generators, without drawn turns and with 500.
 #[test]
 fn sim_replies_as_one_under_every_schedule(rt: HostRuntime) -> Result<(), Fail> {
     for case in ONE.split("\ncase ") {
@@ -353,7 +353,7 @@ fn status_numbers_and_texts(rt: HostRuntime) -> Result<(), Fail> {
         (
             Status::Usage,
             2,
-            b"usage: viommu sim S T | one | check | make N\n",
+            b"usage: viommu run W | sim S T | one | check | make N | load N W\n",
         ),
         (refused, 3, b"bad script line 10000: limit\n"),
         (Status::TooLong, 4, b"input too long\n"),

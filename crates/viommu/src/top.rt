@@ -36,6 +36,22 @@ pub fn plain_top<S: Source, K: Sink>(
     source: &mut S,
     sink: &mut K,
 ) -> Status
+    // How it ends: with every status, what was due and what the sink took.
+    ensures ends { Ends (command_in words.now)
+        (record {
+          left = S.left source.old;
+          read_faults = S.faults source.old;
+          taken = K.taken sink.old;
+          write_faults = K.faults sink.old;
+        })
+        (record {
+          left = S.left source.new;
+          read_faults = S.faults source.new;
+          taken = K.taken sink.new;
+          write_faults = K.faults sink.new;
+        })
+        result }
+
     // The words are none of the forms exactly where the status is Usage, unless writing its text
     // fails.
     ensures usage { result ≡ Status.Usage → command_in words.now ≡ None }

@@ -5,6 +5,9 @@ use Rattle.viommu.proofs.top.plain_top.Goals as goal
 pub carry_out-requires : goal.carry_out-requires
 carry_out-requires g c = rw c.parse.ensures (command_in-form c.args.words.now)
 
+pub returns-clause-ends : goal.returns-clause-ends
+returns-clause-ends g c = rw (← c.parse.ensures) c.carry_out.ensures.ends
+
 pub returns-clause-usage : goal.returns-clause-usage
 returns-clause-usage g c = rw (← c.parse.ensures) (usage_only _ _ _ _ c.carry_out.ensures.ends)
 
