@@ -1,12 +1,13 @@
 -- What a back end has for itself.
-use Rattle.std.specs.Prelude.{◌≡◌, ◌≤◌, ◌<◌, ◌^◌, ℕ, Bool, true, List, [], ◌∷◌, length, map, All, Option, Some, None}
+use Rattle.std.specs.Prelude.{◌≡◌, ◌≤◌, ◌<◌, ◌^◌, ◌-◌, ℕ, Bool, true, nat_lt, if◌then◌else◌, List, [], ◌∷◌, length, map, set, All, Option, Some, None}
 use Rattle.std.specs.List.{range_with_len}
 use Rattle.vi_bytes.specs.declared.lease.Lease.{Lease}
 use Rattle.vi_history.specs.declared.call.Caller.{Caller}
 use Rattle.vi_iotlb.specs.Fields.{IsGrant}
+use Rattle.vi_script.specs.declared.line.Await.{Await}
 use Rattle.vi_script.specs.declared.line.Line.{Line}
 use Rattle.vi_script.specs.Value.{ScriptValue}
-use Rattle.vi_script.specs.Calls.{TransfersWell, lines_of}
+use Rattle.vi_script.specs.Calls.{TransfersWell, lines_of, same_caller}
 use Rattle.vi_model.specs.Places.{id_at, back_at}
 use Rattle.vi_model.specs.Posted.{is_awaited}
 use Rattle.vi_model.specs.Backs.{Seat}
@@ -23,6 +24,14 @@ pub record Own : Type 0 where
 -- of each of the caller's first lines, so many, whether some line of the script awaits it
 abbrev pub awaited_of : ScriptValue → Caller → ℕ → List Bool
 awaited_of s caller count = map (is_awaited s caller) (range_with_len 1 count)
+
+-- marks of lines, with the one of this number set, if there is one
+abbrev pub marked : ℕ → List Bool → List Bool
+marked line marks = if nat_lt 0 line then set marks (line - 1) true else marks
+
+-- and with the one of a caller's line that is awaited
+abbrev pub marked_by : Caller → List Bool → Await → List Bool
+marked_by caller marks a = if same_caller a.caller caller then marked a.line marks else marks
 
 -- the list of what is there
 abbrev pub listed : Option Line → List Line

@@ -1,10 +1,8 @@
 //! A back end's lines, copied from the script.
-ghost use Rattle.std.specs.Prelude.{◌≡◌, ◌==◌, ◌&&◌, ◌++◌, IfOk, OnOk};
-ghost use Rattle.std.specs.List.{list_any};
+ghost use Rattle.std.specs.Prelude.{◌≡◌, ◌++◌, fold, IfOk, OnOk};
 ghost use Rattle.std.specs.Option.{option_copied};
-ghost use Rattle.vi_script.specs.Calls.{lines_of, same_caller};
-ghost use Rattle.vi_model.specs.Posted.{is_awaited};
-ghost use Rattle.vi_backend.specs.Own.{awaited_of, listed};
+ghost use Rattle.vi_script.specs.Calls.{lines_of};
+ghost use Rattle.vi_backend.specs.Own.{awaited_of, listed, marked, marked_by};
 
 use std::alloc::{AllocError, Global};
 use vi_bytes::{Bytes, Items};
@@ -70,27 +68,28 @@ pub fn copied_lines(alloc: Global, script: &Script, caller: Caller) -> Result<Ve
     Ok(lines)
 }
 
-fn awaits_line(awaits: &[Await], caller: Caller, line: u32) -> bool
-    ensures { result ≡ list_any (λ a. same_caller a.caller caller && (a.line == line)) awaits.now }
+/// Marks the line with this number, if the caller has so many lines.
+fn mark(awaited: &mut Vec<bool>, line: u32)
+    ensures { awaited.new.items ≡ marked line awaited.old.items }
 {
-    awaits.iter().any(|a| a.caller == caller && a.line == line)
+    if line > 0 && line as usize <= awaited.len() {
+        awaited[line as usize - 1] = true;
+    }
 }
 
-/// Whether some line of the script awaits this one.
-#[tactic(auto, unfolding(vi_model::specs::Posted::is_awaited))]
-fn is_line_awaited(script: &Script, caller: Caller, line: u32) -> bool
-    ensures { result ≡ is_awaited script.now caller line }
+/// Marks the caller's lines that these await.
+fn mark_awaited(awaited: &mut Vec<bool>, awaits: &[Await], caller: Caller)
+    ensures { awaited.new.items ≡ fold (marked_by caller) awaited.old.items awaits.now }
 {
-    script
-        .lines
-        .as_slice()
-        .iter()
-        .any(|l| awaits_line(l.awaits.as_slice(), caller, line))
+    for a in awaits {
+        if a.caller == caller {
+            mark(awaited, a.line);
+        }
+    }
 }
 
 /// Of each of the caller's first lines, so many, whether some line of the script awaits it. An error is want of
 /// memory.
-#[tactic(auto, using(crate::proofs::Copying::awaited_more))]
 pub fn awaited_lines(
     alloc: Global,
     script: &Script,
@@ -99,9 +98,9 @@ pub fn awaited_lines(
 ) -> Result<Vec<bool>, AllocError>
     ensures { IfOk result (λ awaited. awaited.items ≡ awaited_of script.now caller count) }
 {
-    let mut awaited = Vec::new(alloc);
-    for before in 0..count {
-        awaited.push(is_line_awaited(script, caller, before + 1))?;
+    let mut awaited = vec![in alloc; false; count as usize]?;
+    for line in script.lines.as_slice() {
+        mark_awaited(&mut awaited, line.awaits.as_slice(), caller);
     }
     Ok(awaited)
 }
