@@ -16,7 +16,7 @@ use Rattle.vi_model.specs.Posted.{posted_of, all_posted}
 use Rattle.vi_model.specs.Drivers.{Stand, Driven, Parcel, first_answer, other_answers, other_lines, finished_first, collect, submit, next_open, is_one_batch, submit_parcel, submit_line, collect_first, driver_turn, parcel_of}
 use Rattle.vi_model.specs.Actors.{driver_actor}
 use Rattle.vi_model.specs.Turns as model
-use Rattle.vi_model.specs.Turns.{ControlTurn, stays, is_none, driver_idle, driven}
+use Rattle.vi_model.specs.Turns.{stays, is_none, driver_idle, driven}
 use Rattle.vi_calls.specs.Collecting.{collected_as, without_answer}
 use Rattle.vi_calls.specs.Replies.{is_set, answer_bytes}
 use Rattle.vi_calls.specs.declared.calls.Collected.TheVariants.{Used, Set}
@@ -156,6 +156,19 @@ none_open d h = go d.open_lines h
     go : (ns : List ℕ) → not (length ns == 0) ≡ false → is_none ns ≡ true
     go [] e = refl
     go (n ∷ ns) e = absurd (false≢true (sym e ∙ ap not (ne_eqb (length (n ∷ ns)) 0 (λ q. omega (arith, q)))))
+
+-- without open lines no line is answered, and nothing is collected
+pub collects_without_open : (c : ControlValue) (d : OwnDriver) → is_open d.stand ≡ false
+    → ((a : Answered) → first_of c.state d ≡ Some a → list_any (λ n. n == a.line) d.stand.open_lines ≡ true) → IsCollected (first_of c.state d) false c c d d
+collects_without_open c d shut answered = go (first_of c.state d) refl
+  where
+    no_line : (ns : List ℕ) (line : ℕ) → is_none ns ≡ true → list_any (λ n. n == line) ns ≡ true → ⊥
+    no_line [] line e h = false≢true h
+    no_line (n ∷ ns) line e h = false≢true e
+
+    go : (o : Option Answered) → first_of c.state d ≡ o → IsCollected o false c c d d
+    go None e = (refl, refl, refl)
+    go (Some a) e = absurd (no_line d.stand.open_lines a.line (none_open d.stand shut) (answered a e))
 
 some_open : (d : Stand) → is_open d ≡ true → is_none d.open_lines ≡ false
 some_open d h = go d.open_lines h

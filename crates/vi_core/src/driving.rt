@@ -1,9 +1,7 @@
 //! A driver's turn.
-ghost use Rattle.std.specs.Prelude.{◌≡◌, ◌<◌, true, All, None, Some};
-ghost use Rattle.std.specs.List.{list_all};
+ghost use Rattle.std.specs.Prelude.{◌≡◌, ◌<◌, true, None, Some};
 ghost use Rattle.vi_driver.specs.Drivers.{next_line, next_parcel, continues_batch};
 ghost use Rattle.vi_script.specs.declared.line.Line.{Line};
-ghost use Rattle.vi_control.specs.Calls.{IsCaller};
 ghost use Rattle.vi_core.specs.DriverTurns.{HasDriveRoom, HasLineRoom, IsDriversTurn, IsCollected, IsLeft, IsSubmission, first_of, line_in};
 
 use crate::Turned;
@@ -51,9 +49,21 @@ fn advance(driver: &mut Driver, control: &mut Control) -> Turned
     }
 }
 
-// The answered line of the lowest number is collected, if there is one: it is closed, and the number of the driver's
-// first lines that are all finished is posted.
+// The answered line of the lowest number is collected, if there is one. A driver without open lines has none, and need
+// not look.
 fn collect(driver: &mut Driver, control: &mut Control) -> bool
+    requires { HasDriveRoom control.old.plan control.old.state driver.old }
+    ensures { IsCollected (first_of control.old.state driver.old) result control.old control.new driver.old driver.new }
+{
+    if !driver.open() {
+        return false;
+    }
+    collect_first(driver, control)
+}
+
+// The answered line of the lowest number is closed, if there is one, and the number of the driver's first lines that are
+// all finished is posted.
+fn collect_first(driver: &mut Driver, control: &mut Control) -> bool
     requires { HasDriveRoom control.old.plan control.old.state driver.old }
     ensures { IsCollected (first_of control.old.state driver.old) result control.old control.new driver.old driver.new }
 {
