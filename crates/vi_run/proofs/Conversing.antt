@@ -153,3 +153,14 @@ module _ (p : PassValue) (place : ℕ) (b : Own) (c after : ControlValue) (then 
             ∙ wished_back p.view.script place c.state b.seat (wish p.view.script place b.seat) ∙ ap back_actor (sym seat);
         room = quiet_room p q (who.Back b.id) (who.Back then.id) c.state is entries bytes k.plays.room;
       }
+
+-- ---- with the control lent out of its block
+
+pub converse_needs_lent : (p : PassValue) (place : ℕ) (b : Own) (c lent : ControlValue) → lent ≡ c → IsIdle (back_with p b) → IsBack (back_with p b) place b
+    → IsSoundAt p.view (TheControl c.state) → c.plan ≡ plan_of p.view.script → HasConverseRoom lent.plan lent.state place b
+converse_needs_lent p place b c lent is idle plays at plan = subst (λ (x : ControlValue). HasConverseRoom x.plan x.state place b) (sym is) (converse_needs p place b c idle plays at plan)
+
+pub converses_lent : (p : PassValue) (place : ℕ) (b : Own) (c lent after : ControlValue) (then : Own) (t : Turned) → lent ≡ c → IsIdle (back_with p b) → IsBack (back_with p b) place b
+    → c.plan ≡ plan_of p.view.script → IsBacksTurn place lent after b then t → IsOwn then → after.plan ≡ lent.plan → Converses p place b c after then t
+converses_lent p place b c lent after then t is idle plays plan turn own stays =
+    record { idle = idle; plays = plays; plan = plan; turn = subst (λ (x : ControlValue). IsBacksTurn place x after b then t) is turn; own = own; plan_stays = stays ∙ ap (λ (x : ControlValue). x.plan) is }

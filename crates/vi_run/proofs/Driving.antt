@@ -117,3 +117,14 @@ drive_plays p q d c after then t k is =
   where
     own_driver_with : OwnDriver → Stand → OwnDriver
     own_driver_with y z = record y { stand = z }
+
+-- ---- with the control lent out of its block
+
+pub drive_needs_lent : (p : PassValue) (d : OwnDriver) (c lent : ControlValue) → lent ≡ c → IsIdle (driver_with p d) → IsDriver (driver_with p d) d → IsSoundAt p.view (TheControl c.state)
+    → c.plan ≡ plan_of p.view.script → HasDriveRoom lent.plan lent.state d
+drive_needs_lent p d c lent is idle plays at plan = subst (λ (x : ControlValue). HasDriveRoom x.plan x.state d) (sym is) (drive_needs p d c idle plays at plan)
+
+pub drives_lent : (p : PassValue) (d : OwnDriver) (c lent after : ControlValue) (then : OwnDriver) (t : Turned) → lent ≡ c → IsIdle (driver_with p d) → IsDriver (driver_with p d) d
+    → c.plan ≡ plan_of p.view.script → IsDriversTurn lent after d then t → after.plan ≡ lent.plan → Drives p d c after then t
+drives_lent p d c lent after then t is idle plays plan turn stays =
+    record { idle = idle; plays = plays; plan = plan; turn = subst (λ (x : ControlValue). IsDriversTurn x after d then t) is turn; plan_stays = stays ∙ ap (λ (x : ControlValue). x.plan) is }

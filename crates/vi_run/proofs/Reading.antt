@@ -1,5 +1,5 @@
 -- The event reader's turn on the shared object.
-use Rattle.std.proofs.Common.{◌≡◌, Bool, true, false, List, [], ◌∷◌, None, refl, sym, ap, ◌∙◌}
+use Rattle.std.proofs.Common.{◌≡◌, Bool, true, false, List, [], ◌∷◌, None, refl, sym, ap, subst, ◌∙◌}
 use Rattle.vi_history.specs.declared.outcome.Shown.{Shown}
 use Rattle.vi_script.specs.declared.line.Who.TheVariants as who
 use Rattle.vi_script.specs.Value.{ScriptValue}
@@ -70,3 +70,9 @@ pub read_turned : (p q : PassValue) (events : Bool) (c after : ControlValue) (t 
 read_turned p q events c after t k is placed =
     quiet_turned p q who.Events c.state t k.idle (reads_no_page p k.idle) (k.turn.turned_is ∙ ap (λ (x : ControlTurn). x.turned) (sym (read_is p events c after t k)))
     (quiet p events c after t k) is placed
+
+-- with the control lent out of its block
+pub reads_lent : (p : PassValue) (events : Bool) (c lent after : ControlValue) (t : Turned) → lent ≡ c → IsIdle (reader_with p) → IsReader (reader_with p) events
+    → c.plan ≡ plan_of p.view.script → HasRead (read_of events lent.state) lent after t → Reads p events c after t
+reads_lent p events c lent after t is idle plays plan turn =
+    record { idle = idle; plays = plays; plan = plan; turn = subst (λ (x : ControlValue). HasRead (read_of events x.state) x after t) is turn }

@@ -108,3 +108,13 @@ module _ (p : PassValue) (c after : ControlValue) (done : Served) (k : Serves p 
 
   pub serve_plays : (m q : PassValue) → Makes p m c.state → IsSamePass m q → q.view ≡ gave_back m.view → IsDevice (device_with q)
   serve_plays m q made same is = record { who_is = refl; room = made_room p m q who.Device c.state made same is k.plays.room }
+
+-- ---- with the control lent out of its block
+
+pub serve_needs_lent : (p : PassValue) (c lent : ControlValue) → lent ≡ c → IsSoundAt p.view (TheControl c.state) → c.plan ≡ plan_of p.view.script → HasRoom lent
+serve_needs_lent p c lent is at plan = subst HasRoom (sym is) (serve_needs p c at plan)
+
+pub serves_lent : (p : PassValue) (c lent after : ControlValue) (done : Served) → lent ≡ c → IsIdle (device_with p) → IsDevice (device_with p) → IsSoundAt p.view (TheControl c.state)
+    → c.plan ≡ plan_of p.view.script → IsDevicesTurn lent after done → after.plan ≡ lent.plan → Serves p c after done
+serves_lent p c lent after done is idle plays at plan turn stays =
+    record { idle = idle; plays = plays; plan = plan; at = at; turn = subst (λ (x : ControlValue). IsDevicesTurn x after done) is turn; plan_stays = stays ∙ ap (λ (x : ControlValue). x.plan) is }

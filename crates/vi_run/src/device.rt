@@ -1,5 +1,4 @@
 //! The device's turn on the shared object.
-ghost use Rattle.std.specs.Prelude.{◌≡◌};
 ghost use Rattle.vi_script.specs.declared.line.Who.TheVariants as who;
 ghost use Rattle.vi_run.specs.Actors.{IsDevice, IsIdle, IsPassOf};
 ghost use Rattle.vi_run.specs.Turns.{HasTurned, device_with};

@@ -1,17 +1,19 @@
 -- Facts on lists of views, and on what seats know.
-use Rattle.std.proofs.Common.{◌≡◌, ℕ, zero, suc, ◌+◌, ◌<◌, ◌≤◌, ◌≢◌, List, [], ◌∷◌, ◌++◌, length, set, sym, refl, ap, subst, ◌∙◌, arith, Bool, true, false, cond, eq-eqb, le-ltb, Some}
+use Rattle.std.proofs.Common.{◌≡◌, ℕ, zero, suc, ◌+◌, ◌<◌, ◌≤◌, ◌≢◌, List, [], ◌∷◌, ◌++◌, length, set, sym, refl, ap, subst, ◌∙◌, arith, Bool, true, false, cond, eq-eqb, le-ltb}
 use mathlib.Core.Option.{some, some-ne-none}
 use mathlib.Core.Logic.{dite}
 use native.Mathlib.Decide.{dec_le}
 use lib.ListN.{get_elem?}
+use Rattle.std.proofs.lemmas.Bool.Decides.{nat_tests}
 use Rattle.vi_history.specs.Logs.{Stands, once_below}
 use Rattle.vi_script.specs.Value.{ScriptValue}
 use Rattle.vi_model.specs.Worlds.{World}
-use Rattle.vi_turns.specs.Holding.{Taken}
+use Rattle.vi_turns.specs.Holding.{Held, TheControl, ThePage, Taken}
 use Rattle.vi_turns.specs.Views.{total, same, number_count}
-use Rattle.vi_turns.specs.Order.{Each, IsTaken, Knows}
+use Rattle.vi_turns.specs.Order.{Each, slot_of, Has, IsTaken, Knows}
 use Rattle.vi_turns.specs.declared.view.View.{View}
 use Rattle.vi_turns.proofs.Actors.{Goes}
+use Rattle.vi_turns.proofs.Getting.{get_within}
 
 module _ {A : Type 0} where
   pub each_map : (P Q : A → Type 0) → ((x : A) → P x → Q x) → (xs : List A) → Each P xs → Each Q xs
@@ -100,3 +102,12 @@ knows_goes s w y number u g zeros k = record {
   above = k.above;
   spent = k.spent;
 }
+
+-- one number more stands below
+pub once_step : (x n : ℕ) → once_below x (n + 1) ≡ once_below x n + same x n
+once_step x n = grind (arith, nat_tests)
+
+-- the slot of a value of the world is one of the table's
+pub slot_inside : (w : World) (x : Held) → Has w x → slot_of x < length w.pages + 1
+slot_inside w (TheControl c) h = omega arith
+slot_inside w (ThePage page bytes) h = let l = get_within w.pages page bytes h in omega arith

@@ -7,7 +7,6 @@ use native.Mathlib.Decide.{ℕ_discrete}
 use lib.ListN.{get_elem?}
 use Rattle.atomic_table.specs.Table.{Splits, Joins}
 use Rattle.atomic_table.proofs.Lists.{at_set, at_snoc, at_longer, set_else, set_again}
-use Rattle.std.proofs.lemmas.Bool.Decides.{nat_tests}
 use Rattle.vi_history.specs.Logs.{Stands, once_below}
 use Rattle.vi_history.specs.declared.entry.Entry.{Entry}
 use Rattle.vi_script.specs.Value.{ScriptValue}
@@ -18,13 +17,10 @@ use Rattle.vi_turns.specs.Order.{slot_of, word_of, Has, HoldsNot, Lock, free, he
 use Rattle.vi_turns.specs.declared.slot.Slot.{Slot}
 use Rattle.vi_turns.specs.declared.view.View.{View}
 use Rattle.vi_turns.proofs.Actors.{drops}
-use Rattle.vi_turns.proofs.Basics.{each_map, each_append, set_there, total_append, total_set, live_count, knows_goes, all_taken_goes}
+use Rattle.vi_turns.proofs.Basics.{each_map, each_append, set_there, total_append, total_set, live_count, knows_goes, all_taken_goes, once_step}
 use Rattle.vi_turns.proofs.Seats.{St, board, lone, low, own_taken, first_of, lock_kept, none_holds}
 
 -- one more number
-once_step : (x n : ℕ) → once_below x (n + 1) ≡ once_below x n + same x n
-once_step x n = grind (arith, nat_tests)
-
 -- the pass with the number 0 is the first seat
 pub is_first : (s : ScriptValue) (st : St) (r : IsInOrder s st) (id : ℕ) (v : View) → get_elem? st.views id ≡ some v → v.live ≡ true → v.number ≡ 0 → r.zeroth ≡ v
 is_first s st r id v at live zero_ = let f = r.first in dite (ℕ_discrete 0 id)

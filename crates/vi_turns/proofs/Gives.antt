@@ -25,16 +25,11 @@ use Rattle.vi_turns.specs.declared.slot.Slot.{Slot}
 use Rattle.vi_turns.specs.declared.slot.Slot.TheVariants as slot
 use Rattle.vi_turns.specs.declared.view.View.{View}
 use Rattle.vi_turns.proofs.Actors.{Goes, goes_same}
-use Rattle.vi_turns.proofs.Getting.{get_within, get_inside}
-use Rattle.vi_turns.proofs.Basics.{each_map, set_there, all_taken_goes}
+use Rattle.vi_turns.proofs.Getting.{get_inside}
+use Rattle.vi_turns.proofs.Basics.{each_map, set_there, all_taken_goes, slot_inside}
 use Rattle.vi_turns.proofs.Seats.{St, board, Kin, like, reseat, none_holds, other_holds, one_each, lock_kept, alone, own_taken}
 use Rattle.vi_turns.proofs.Wins.{placed}
 use Rattle.vi_turns.proofs.Changes.{Turned, turned, Changes, control_changes, nothing_changes, recorded}
-
--- a value's slot is one of the table's
-slot_inside : (w : World) (x : Held) → Has w x → slot_of x < length w.pages + 1
-slot_inside w (TheControl c) has = omega arith
-slot_inside w (ThePage page bytes) has = let l : page < length w.pages = get_within w.pages page bytes has in omega arith
 
 -- the words and the slots once the value z is at home in this slot
 abbrev pub at_home : St → Held → Slot → ℕ → View → St

@@ -1,6 +1,5 @@
 -- A ticket is drawn: the rule stays, and the pass is told of the history.
 use Rattle.std.proofs.Common.{◌≡◌, ◌≢◌, inl, inr, ⊎_elim, ℕ, ◌+◌, ◌%◌, ◌<◌, List, [], ◌∷◌, ◌++◌, length, set, get_or, sym, refl, ap, subst, ◌∙◌, arith, true, length-set, length-append, get_or-set_same, get_or-set_other, Option, Some, None}
-use Rattle.std.proofs.lemmas.Bool.Decides.{nat_tests}
 use Rattle.std.proofs.Math.Nat.{mod-eq_of_lt}
 use mathlib.Core.Option as maybe
 use mathlib.Core.Option.{some, none}
@@ -29,14 +28,11 @@ use Rattle.vi_turns.specs.declared.slot.Slot.{Slot}
 use Rattle.vi_turns.specs.declared.view.View.{View}
 use Rattle.vi_turns.proofs.Actors.{Goes, goes_access, has_accessed}
 use Rattle.vi_turns.proofs.Getting.{get_inside, get_last, get_default}
-use Rattle.vi_turns.proofs.Basics.{each_map, each_append, set_there, total_append, all_taken_goes}
+use Rattle.vi_turns.proofs.Basics.{each_map, each_append, set_there, total_append, all_taken_goes, once_step}
 use Rattle.vi_turns.proofs.Seats.{St, board, Kin, like, reseat, other_holds, one_each, lock_kept, alone, own_taken}
 use Rattle.vi_turns.proofs.Changes.{Turned, turned, AccessLeaves, access_leaves, Changes, control_changes, page_changes, recorded, access_there}
 
 -- one more place is below a number that is one higher
-once_step : (x n : ℕ) → once_below x (n + 1) ≡ once_below x n + same x n
-once_step x n = grind (arith, nat_tests)
-
 -- The world y has one entry more than w, and the actor of the pass with this number, which made it, has this.
 pub record Enters (s : ScriptValue) (w y : World) (number : ℕ) (e : Entry) (a : Actor) : Type 0 where
   pub history : y.history ≡ w.history ++ e ∷ []

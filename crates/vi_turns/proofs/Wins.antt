@@ -24,8 +24,8 @@ use Rattle.vi_turns.specs.declared.slot.Slot.{Slot}
 use Rattle.vi_turns.specs.declared.slot.Slot.TheVariants as slot
 use Rattle.vi_turns.specs.declared.view.View.{View}
 use Rattle.vi_turns.proofs.Actors.{goes_same}
-use Rattle.vi_turns.proofs.Getting.{get_within, get_inside}
-use Rattle.vi_turns.proofs.Basics.{each_map, set_there, term_le, once_most}
+use Rattle.vi_turns.proofs.Getting.{get_inside}
+use Rattle.vi_turns.proofs.Basics.{each_map, set_there, term_le, once_most, slot_inside}
 use Rattle.vi_turns.proofs.Seats.{St, board, Kin, like, reseat, quiet, none_holds, other_holds, one_each, lock_kept, is_free}
 
 -- a look at the ticket word
@@ -42,11 +42,6 @@ fronts s slots id me live st r wide at small =
     quiet s st r id v u at live record { live = refl; number = refl; made = refl; taken = refl } (goes_same s r.world v.number)
     record { script = k.script; log = k.log; taken = k.taken; actor = k.actor; seen = omega arith; above = each_map _ _ (λ (e : Ticketed) l. let a : e.ticket < n = omega arith in a) v.log k.above; spent = k.spent } refl refl in
     (u, keeps, tt, subst (λ ws. IsInOrder s (board ws st.homes (set st.views id u))) (sym (set-get_or st.words 0 0)) order, (more, refl))
-
--- a value's slot is one of the table's
-slot_inside : (w : World) (x : Held) → Has w x → slot_of x < length w.pages + 1
-slot_inside w (TheControl c) h = omega arith
-slot_inside w (ThePage page bytes) h = let l = get_within w.pages page bytes h in omega arith
 
 -- the seat id takes a value that is at home
 pub takes_value : (s : ScriptValue) (st : St) (r : IsInOrder s st) (x : Held) (id : ℕ) (v u : View) (number : ℕ) → Has r.world x → get_or st.words (word_of x) 0 ≡ 0

@@ -28,5 +28,5 @@ pub(crate) fn emptied(mut closed: Closed<Slot, Global>, mut room: Vec<Page>) -> 
     let Slot::Control(control) = first else {
         unreachable!()
     };
-    (control, room)
+    (control.into_inner(), room)
 }

@@ -1,8 +1,9 @@
 //! What a new table begins with.
-ghost use Rattle.std.specs.Prelude.{◌≡◌, ◌+◌, ◌≤◌, ◌++◌, map, replicate, vec_len, vec_capacity, IfOk};
+ghost use Rattle.std.specs.Prelude.{◌≡◌, ◌+◌, ◌≤◌, ◌++◌, replicate, vec_len, vec_capacity, IfOk};
 ghost use Rattle.vi_turns.specs.declared.slot.Slot.TheVariants as slot;
 ghost use Rattle.vi_turns.specs.Ended.{page_slots, shelf};
 
+use crate::control_box::ControlBox;
 use crate::slot::Slot;
 use std::alloc::{AllocError, Global};
 use vi_control::Control;
@@ -25,8 +26,9 @@ pub(crate) fn filled(
 ) -> Result<Vec<Slot>, AllocError>
     ensures { IfOk result (λ slots. slots.items ≡ shelf control pages.items) }
 {
+    let boxed = ControlBox::build(alloc, control)?;
     let mut slots = Vec::with_capacity(alloc, pages.len() + 1)?;
-    slots.push_reserved(Slot::Control(control));
+    slots.push_reserved(Slot::Control(boxed));
     fill(&mut slots, pages);
     Ok(slots)
 }

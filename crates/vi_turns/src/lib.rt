@@ -4,6 +4,7 @@
 #![tactic(auto)]
 
 mod closed;
+mod control_box;
 mod emptied;
 mod filled;
 mod pass;
@@ -15,6 +16,7 @@ mod tests;
 mod view;
 
 pub use closed::Closed;
+pub use control_box::ControlBox;
 pub use pass::Pass;
 pub use shared::{Busy, Shared};
 pub use slot::Slot;

@@ -1,7 +1,6 @@
 //! The object that all threads share.
 ghost use Rattle.std.specs.Prelude.{◌≡◌, ◌≢◌, ◌+◌, ◌<◌, ◌≤◌, ◌^◌, [], length, replicate, None, IfOk, MatchResult};
 ghost use Rattle.vi_bytes.specs.declared.span.TheConstants.{PAGE};
-ghost use Rattle.vi_history.specs.Logs.{LogValue};
 ghost use Rattle.vi_model.specs.Playable.{IsPlayable};
 ghost use Rattle.vi_model.specs.Worlds.{opening_control};
 ghost use Rattle.vi_control.specs.Plan.{plan_of};
@@ -12,6 +11,7 @@ ghost use Rattle.vi_turns.specs.Passes.{HoldsPage, IsDue, IsDueControl, IsSamePa
 ghost use Rattle.vi_turns.specs.Ended.{IsClosed};
 
 use crate::closed::{Closed, Last};
+use crate::control_box::ControlBox;
 use crate::emptied::emptied;
 use crate::filled::{filled, zeros};
 use crate::pass::Pass;
@@ -140,14 +140,14 @@ impl Shared {
         self.table.shared.load::<Front>(&mut pass.seat, 0)
     }
 
-    /// Wins the control, where nobody has it.
-    pub fn try_control(&self, pass: &mut Pass) -> Result<Control, Busy>
+    /// Wins the control, where nobody has it. It comes in the block that `build` took for it.
+    pub fn try_control(&self, pass: &mut Pass) -> Result<Box<Control>, Busy>
         requires own { pass.old.table ≡ self.now.table }
         requires empty { pass.old.view.held ≡ None }
         ensures same { IsSamePass pass.old pass.new }
-        ensures won { IfOk result (λ c. pass.new.view ≡ won_control pass.old.view c.state) }
-        ensures plan { IfOk result (λ c. c.plan ≡ plan_of pass.old.view.script) }
-        ensures sound { IfOk result (λ c. IsSoundAt pass.old.view (TheControl c.state)) }
+        ensures won { IfOk result (λ c. pass.new.view ≡ won_control pass.old.view c.value.state) }
+        ensures plan { IfOk result (λ c. c.value.plan ≡ plan_of pass.old.view.script) }
+        ensures sound { IfOk result (λ c. IsSoundAt pass.old.view (TheControl c.value.state)) }
         ensures busy { MatchResult result (λ _. Unit {0}) (λ b. (b.word ≡ 1) × (b.found ≢ 0) × (pass.new.view ≡ lost pass.old.view 1 b.found)) }
     {
         let number = pass.number;
@@ -162,22 +162,20 @@ impl Shared {
         let Slot::Control(control) = taken else {
             unreachable!()
         };
-        Ok(control)
+        Ok(control.into_box())
     }
 
     /// Gives the control back: the one that the pass recorded at its stamp, or else the one that its actor's turn leaves,
     /// which then makes no entry.
-    pub fn give_control(&self, pass: &mut Pass, control: Control)
+    pub fn give_control(&self, pass: &mut Pass, control: Box<Control>)
         requires own { pass.old.table ≡ self.now.table }
-        requires due { IsDueControl pass.old.view control }
+        requires due { IsDueControl pass.old.view control.value }
         ensures same { IsSamePass pass.old pass.new }
         ensures given { pass.new.view ≡ gave_back pass.old.view }
         ensures placed { IsPlaced pass.new.view }
     {
-        let out = self
-            .table
-            .shared
-            .exchange(&mut pass.seat, 0, Slot::Control(control));
+        let value = Slot::Control(ControlBox::of(control));
+        let out = self.table.shared.exchange(&mut pass.seat, 0, value);
         drop(out);
         self.table.shared.store::<Give>(&mut pass.seat, 1, 0);
     }

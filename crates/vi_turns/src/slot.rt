@@ -1,12 +1,12 @@
 //! What the slots of the table have.
-use vi_control::Control;
+use crate::control_box::ControlBox;
 use vi_memory::Page;
 
 /// What a slot of the table has.
 #[derive(Drop)]
 pub enum Slot {
     /// The control, in the first slot.
-    Control(Control),
+    Control(ControlBox),
     /// A page of the memory, in the slots behind it.
     Page(Page),
     /// The value is with the pass that holds it.
