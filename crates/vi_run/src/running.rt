@@ -1,5 +1,5 @@
 //! The run.
-ghost use Rattle.std.specs.Prelude.{◌≡◌, ◌<◌, ◌≤◌, ℕ, true, length, All, vec_len, vec_capacity};
+ghost use Rattle.std.specs.Prelude.{◌≡◌, ◌+◌, ◌<◌, ◌≤◌, true, length, All, vec_len, vec_capacity};
 ghost use Rattle.std.specs.List.{list_all};
 ghost use Rattle.vi_run.specs.Actors.{IsPassOf, is_done};
 ghost use Rattle.vi_run.specs.Runs.{AreActors, AreSame, IsOpened, IsRun, IsSame};
@@ -21,8 +21,14 @@ const TURNS: u32 = 4096;
 /// How many turns an actor takes in a row at most, as long as it moves.
 const IN_A_ROW: u32 = 64;
 
+/// How often in a row a worker goes over its actors in vain until all workers meet.
+const IN_VAIN: usize = 1024;
+
+/// How often a worker yields at most after it went over its actors.
+const YIELDS: usize = 16;
+
 /// Runs all actors on 1 to 16 workers until every line is finished, and joins their passes. Each worker has some of the actors; in
-/// each round it takes at most 4096 turns of theirs.
+/// each round it takes at most 4096 turns of theirs, and fewer where none of them moves.
 pub fn run<R: Threads + Wait + Sync, G: Gate + Sync>(
     rt: &R,
     opened: Opened,
@@ -75,21 +81,39 @@ fn take_round<R: Threads + Sync, G: Gate + Sync>(
     );
 }
 
-// At most 4096 turns of these actors, one after the other and over again.
+// At most 4096 turns of these actors, one after the other and over again, until they are in vain.
 fn take_turns<G: Gate>(shared: &Shared, chunk: &mut [Actor], gate: &G)
     requires some { 0 < length chunk.old }
     requires own { All (λ a. IsPassOf shared.now a.pass) chunk.old }
     ensures same { AreSame shared.now chunk.old chunk.new }
 {
     let mut turns = 0;
+    let mut idle = 0;
     let mut at = 0;
-    while turns < TURNS {
+    while turns + IN_A_ROW <= TURNS && idle / chunk.len() < IN_VAIN {
         if at == chunk.len() {
             at = 0;
-            thread::yield_now();
+            give_way(idle / chunk.len());
         }
-        turns += turns_in_a_row(shared, &mut chunk[at], gate);
+        let taken = turns_in_a_row(shared, &mut chunk[at], gate);
+        turns += taken;
+        idle = idle_after(idle, taken);
         at += 1;
+    }
+}
+
+// How many actors in a row didn't move, after one that took so many turns.
+fn idle_after(idle: usize, taken: u32) -> usize
+    requires few { idle ≤ 4096 }
+    ensures { result ≤ idle + 1 }
+{
+    if taken == 1 { idle + 1 } else { 0 }
+}
+
+// Lets other workers go first, the longer the more often it was in vain.
+fn give_way(in_vain: usize) {
+    for _time in 0..in_vain.min(YIELDS) {
+        thread::yield_now();
     }
 }
 

@@ -7,6 +7,8 @@ invariant-loop-turns g l = record {
   same : AreSame l.shared l.fn.chunk l.chunk;
   some : 0 < length l.chunk;
   at : l.at ≤ length l.chunk;
+  few : l.turns ≤ 4096;
+  idle : l.idle ≤ l.turns;
 }
 
 abbrev pub decreases-loop-turns : goal.decreases-loop-turns
