@@ -1,8 +1,8 @@
 -- The end of a run: every line of every caller is finished.
-use Rattle.std.proofs.Common.{◌≡◌, ◌<◌, ◌≤◌, ◌+◌, ℕ, zero, suc, Bool, true, false, cond, eqb, leb, ltb, ◌&&◌, List, [], ◌∷◌, ◌++◌, length, map, get_or, slice_get, Option, Some, None, refl, sym, ap, ◌∙◌, subst, arith}
-use Rattle.std.specs.Prelude.{All, nat_le, nat_lt, nat_eq}
+use Rattle.std.proofs.Common.{◌≡◌, ◌<◌, ◌+◌, ℕ, zero, suc, Bool, true, false, List, [], ◌∷◌, length, map, slice_get, Option, Some, refl, sym, ap, ◌∙◌, subst, arith}
+use Rattle.std.specs.Prelude.{All, nat_le}
 use Rattle.std.specs.List.{list_all, range_with_len}
-use Rattle.std.specs.Prelude.{◌==◌, fold, sum_by, count_by}
+use Rattle.std.specs.Prelude.{◌==◌, fold, count_by}
 use Rattle.std.proofs.lemmas.Bool.{and_from, eq-eqb, le-leb, ltb-false}
 use Rattle.std.proofs.lemmas.List.Elements.{All-from_recursion, recursion_from_All, All-tail}
 use Rattle.std.proofs.lemmas.List.Folds.{fold-map}
@@ -16,11 +16,10 @@ use Rattle.vi_script.specs.declared.line.Who.TheVariants as who
 use Rattle.vi_script.specs.Value.{ScriptValue}
 use Rattle.vi_script.specs.Calls.{lines_of}
 use Rattle.vi_model.specs.Control.{driver_count}
-use Rattle.vi_model.specs.Places.{place_count, place_of, id_at, back_at}
-use Rattle.vi_model.specs.Drivers.{Stand}
+use Rattle.vi_model.specs.Places.{place_count, id_at, back_at}
 use Rattle.vi_model.specs.Asking.{one_if}
-use Rattle.vi_model.specs.Held.{count_line, IsSoundDriver}
-use Rattle.vi_model.specs.Actors.{Actor, Progress, Steps, stand_in, steps_in}
+use Rattle.vi_model.specs.Held.{count_line}
+use Rattle.vi_model.specs.Actors.{Actor}
 use Rattle.vi_model.specs.Turns.{is_none}
 use Rattle.vi_model.specs.Worlds.{World, stand_of, seat_of, actor_of}
 use Rattle.vi_model.specs.Rounds.{actors, has_lines, is_finished, is_driver_finished, is_back_finished}

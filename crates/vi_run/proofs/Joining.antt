@@ -1,5 +1,5 @@
 -- Passes of actors that are done are joined, one after the other.
-use Rattle.std.proofs.Common.{◌≡◌, ◌≢◌, ◌<◌, ◌+◌, ℕ, zero, suc, true, List, [], ◌∷◌, ◌++◌, length, map, get_or, slice_get, Option, Some, None, refl, sym, ap, ◌∙◌, subst, arith}
+use Rattle.std.proofs.Common.{◌≡◌, ◌≢◌, ◌<◌, ◌+◌, ℕ, zero, suc, true, List, [], ◌∷◌, ◌++◌, length, map, slice_get, Option, Some, None, refl, sym, ap, ◌∙◌, subst, arith}
 use Rattle.std.specs.List.{list_all}
 use Rattle.std.proofs.lemmas.Bool.{and_parts}
 use Rattle.std.proofs.lemmas.List.{length-append, length-map, map-append}
@@ -17,7 +17,7 @@ use Rattle.vi_turns.specs.Passes.{PassValue, Board, IsSamePass, log_of}
 use Rattle.vi_turns.specs.Views.{who_of, taken_of, joined, last_of}
 use Rattle.vi_turns.specs.declared.view.View.{View}
 use Rattle.vi_run.specs.Actors.{ActorValue, view_of, IsPassOf, IsIdle, is_done, is_done_by}
-use Rattle.vi_run.specs.Runs.{IsActorAt, AreActors, IsOpened, IsRun}
+use Rattle.vi_run.specs.Runs.{IsActorAt, IsOpened, IsRun}
 use Rattle.vi_run.proofs.Members.{who_at, at_push}
 use Rattle.vi_run.proofs.Ending.{HasDone, AllDone, runs}
 

@@ -1,5 +1,5 @@
 -- What turns keep: the same actors with the same passes.
-use Rattle.std.proofs.Common.{◌≡◌, ◌≢◌, ◌<◌, ◌+◌, ℕ, zero, suc, Bool, true, false, eqb, List, [], ◌∷◌, ◌++◌, length, set, get_or, take, drop, slice_get, Some, refl, sym, ap, ◌∙◌, subst, arith}
+use Rattle.std.proofs.Common.{◌≡◌, ◌≢◌, ◌<◌, ◌+◌, ℕ, Bool, true, false, eqb, List, ◌++◌, length, set, get_or, take, drop, slice_get, Some, refl, sym, ap, ◌∙◌, subst, arith}
 use Rattle.std.specs.Prelude.{All}
 use Rattle.std.specs.Fork.{IsChunk}
 use Rattle.std.proofs.lemmas.Bool.{eqb-true}
@@ -9,8 +9,8 @@ use Rattle.std.proofs.lemmas.List.Elements.{All-get_or}
 use Rattle.std.proofs.lemmas.Option.{same_Some, slice_get_within, slice_get-get_or, get_or_from_slice_get}
 use Rattle.vi_turns.specs.Passes.{Board}
 use Rattle.vi_turns.proofs.Getting.{get_set_there, get_set_other}
-use Rattle.vi_run.specs.Actors.{ActorValue, view_of, IsPassOf}
-use Rattle.vi_run.specs.Runs.{IsActorAt, AreActors, IsSame, AreSame}
+use Rattle.vi_run.specs.Actors.{ActorValue, IsPassOf}
+use Rattle.vi_run.specs.Runs.{AreActors, IsSame, AreSame}
 
 -- each actor's pass is one of this shared object
 abbrev pub AreOwn : Board → List ActorValue → Type 0

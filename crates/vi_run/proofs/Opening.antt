@@ -1,9 +1,8 @@
 -- A run before its first turn: what each pass begins with, and what its actor does.
-use Rattle.std.proofs.Common.{◌≡◌, ◌<◌, ◌≤◌, ◌+◌, ℕ, zero, suc, List, [], ◌∷◌, ◌++◌, length, get_or, replicate, slice_get, Option, Some, None, refl, sym, ap, ◌∙◌, subst, arith}
+use Rattle.std.proofs.Common.{◌≡◌, ◌<◌, ◌+◌, ℕ, zero, suc, List, [], ◌∷◌, ◌++◌, length, get_or, replicate, slice_get, Option, Some, refl, sym, ap, ◌∙◌, subst, arith}
 use Rattle.std.specs.Prelude.{sum_by, nat_eq}
 use Rattle.std.specs.List.{position}
 use Rattle.vi_bytes.specs.declared.region.EndpointSetup.{EndpointSetup}
-use Rattle.std.proofs.lemmas.List.{length-append}
 use Rattle.std.proofs.lemmas.Option.{slice_get-get_or}
 use Rattle.vi_history.specs.Logs.{LogValue, Ticketed, no_entries}
 use Rattle.vi_script.specs.declared.line.Line.{Line}
@@ -13,8 +12,8 @@ use Rattle.vi_script.specs.Value.{ScriptValue}
 use Rattle.vi_model.specs.Control.{driver_count}
 use Rattle.vi_model.specs.Places.{id_at, place_count, place_of}
 use Rattle.vi_model.specs.Drivers.{Stand, no_stand}
-use Rattle.vi_model.specs.Backs.{Seat, no_seat}
-use Rattle.vi_model.specs.Actors.{Actor, driver_actor, back_actor, other_actor}
+use Rattle.vi_model.specs.Backs.{no_seat}
+use Rattle.vi_model.specs.Actors.{Actor, driver_actor, back_actor}
 use Rattle.vi_model.specs.Worlds.{actor_of, opening}
 use Rattle.vi_model.specs.Rounds.{actors, calls_in, calls_of}
 use Rattle.vi_core.specs.HistoryRoom.{answer_bytes, bytes_of}
@@ -23,12 +22,12 @@ use Rattle.vi_model.proofs.Laws.{opening_is_sound}
 use Rattle.vi_driver.specs.Drivers.{OwnDriver, own_driver}
 use Rattle.vi_backend.specs.Own.{Own, IsOwn, IsBackOf}
 use Rattle.vi_turns.specs.Order.{IsPlaced}
-use Rattle.vi_turns.specs.Views.{who_of, first, first_actor, split_right, stamp_count}
+use Rattle.vi_turns.specs.Views.{who_of, first, first_actor, split_right}
 use Rattle.vi_turns.specs.Passes.{PassValue, Board, log_of}
 use Rattle.vi_turns.specs.declared.view.View.{View}
 use Rattle.vi_run.specs.declared.role.Role.{Role}
 use Rattle.vi_run.specs.declared.role.Role.TheVariants as role
-use Rattle.vi_run.specs.Actors.{ActorValue, view_of, IsPassOf, IsIdle, HasLogRoom, Plays}
+use Rattle.vi_run.specs.Actors.{ActorValue, view_of, IsIdle, HasLogRoom, Plays}
 use Rattle.vi_run.specs.Roles.{IsNew, IsNewDriver, IsNewBack, HasAllRoom, HasRoomFor}
 use Rattle.vi_run.specs.Runs.{IsActorAt, AreActors, IsOpened}
 use Rattle.vi_run.proofs.Members.{who_at, at_push, is_player, id_at_place, position_is}

@@ -2,7 +2,6 @@
 use Rattle.std.specs.Prelude.{◌≡◌, ℕ, ◌+◌, true, List, [], length, slice_get, Some, None}
 use Rattle.vi_history.specs.Logs.{LogValue, IsMerged}
 use Rattle.vi_history.specs.declared.outcome.Outcome.{Outcome}
-use Rattle.vi_script.specs.Value.{ScriptValue}
 use Rattle.vi_model.specs.Worlds.{World}
 use Rattle.vi_model.specs.Rounds.{actors, is_finished}
 use Rattle.vi_model.specs.Playable.{IsPlayable}
@@ -13,7 +12,7 @@ use Rattle.vi_turns.specs.Holding.{Last}
 use Rattle.vi_turns.specs.Passes.{PassValue, Board}
 use Rattle.vi_turns.specs.Ended.{IsHistory}
 use Rattle.vi_turns.specs.declared.view.View.{View}
-use Rattle.vi_run.specs.Actors.{ActorValue, view_of, IsPassOf, IsIdle}
+use Rattle.vi_run.specs.Actors.{ActorValue, view_of, IsPassOf}
 
 -- the shared object, pass 0, and the actors
 pub record OpenedValue : Type 0 where

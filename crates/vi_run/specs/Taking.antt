@@ -11,7 +11,7 @@ use Rattle.vi_model.specs.Turns.{accessed_page, driver_idle}
 use Rattle.vi_core.specs.declared.turned.Turned.{Turned}
 use Rattle.vi_core.specs.declared.turned.Turned.TheVariants.{Moved, Rest}
 use Rattle.vi_core.specs.Turning.{turned_of}
-use Rattle.vi_turns.specs.Views.{acts_for, turn_of, accesses_of, access_of, won_control, won_page, gave_back, lost}
+use Rattle.vi_turns.specs.Views.{acts_for, turn_of, access_of, won_control, won_page, gave_back, lost}
 use Rattle.vi_turns.specs.Views as view
 use Rattle.vi_turns.specs.declared.view.View.{View}
 use Rattle.vi_turns.specs.declared.shared.Busy.{Busy}

@@ -6,7 +6,6 @@ ghost use Rattle.vi_model.specs.Places.{place_count, place_of};
 ghost use Rattle.vi_model.specs.Playable.{IsPlayable};
 ghost use Rattle.vi_model.specs.Rounds as rounds;
 ghost use Rattle.vi_turns.specs.Views.{first, who_of};
-ghost use Rattle.vi_run.specs.Actors.{IsPassOf};
 ghost use Rattle.vi_run.specs.Roles.{HasRoomFor, IsNew};
 ghost use Rattle.vi_run.specs.Runs.{IsOpened};
 

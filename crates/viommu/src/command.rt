@@ -1,7 +1,6 @@
 //! The forms of the command line.
 ghost use Rattle.std.specs.Prelude.{◌≡◌, map, string_bytes};
 ghost use Rattle.viommu.specs.Command.{alone, command_in, make_for, make_of, named, sim_for, sim_of};
-ghost use Rattle.viommu.specs.Words.{number_of};
 
 use crate::words::number;
 

@@ -1,5 +1,5 @@
 //! All the input of a command, read up to a limit.
-ghost use Rattle.std.specs.Prelude.{◌≡◌, ◌+◌, ◌≤◌, length, IfOk, IsErrOf};
+ghost use Rattle.std.specs.Prelude.{◌+◌, ◌≤◌, length, IfOk, IsErrOf};
 ghost use Rattle.viommu.specs.Causes.{Rose};
 ghost use Rattle.viommu.specs.Input.{ReadsAll, IsPast, TakesAtMost};
 

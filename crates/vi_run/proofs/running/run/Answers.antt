@@ -1,4 +1,4 @@
-use Rattle.std.proofs.Common.{◌≡◌, ℕ, List, length, sym, ap, ◌∙◌, subst, arith}
+use Rattle.std.proofs.Common.{◌≡◌, List, length, sym, ap, ◌∙◌, subst}
 use Rattle.vi_run.specs.Actors.{ActorValue}
 use Rattle.vi_run.specs.Runs.{AreActors}
 use Rattle.vi_run.proofs.Keeping.{came_back}

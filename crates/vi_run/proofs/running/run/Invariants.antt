@@ -1,4 +1,4 @@
-use Rattle.std.proofs.Common.{◌≡◌, ◌<◌, length}
+use Rattle.std.proofs.Common.{◌≡◌, length}
 use Rattle.vi_run.specs.Runs.{AreActors}
 use Rattle.vi_run.proofs.running.run.Given as goal
 
