@@ -14,6 +14,7 @@ mod role;
 mod running;
 #[cfg(test)]
 mod tests;
+mod waiting;
 
 pub use actor::Actor;
 pub use finished::Finished;

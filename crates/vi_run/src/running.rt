@@ -8,8 +8,8 @@ use crate::actor::Actor;
 use crate::finished::Finished;
 use crate::opened::Opened;
 use crate::ran::Ran;
+use crate::waiting::{Round, Waiting};
 use std::sync::Wait;
-use std::thread;
 use std::thread::{Threads, for_each_chunk_mut};
 use vi_core::{Gate, Turned};
 use vi_history::Log;
@@ -21,14 +21,8 @@ const TURNS: u32 = 4096;
 /// How many turns an actor takes in a row at most, as long as it moves.
 const IN_A_ROW: u32 = 64;
 
-/// How often in a row a worker goes over its actors in vain until all workers meet.
-const IN_VAIN: usize = 1024;
-
-/// How often a worker yields at most after it went over its actors.
-const YIELDS: usize = 16;
-
 /// Runs all actors on 1 to 16 workers until every line is finished, and joins their passes. Each worker has some of the actors; in
-/// each round it takes at most 4096 turns of theirs, and fewer where none of them moves.
+/// each round it takes at most 4096 turns of theirs, and fewer where another worker has taken as many or no actor moves.
 pub fn run<R: Threads + Wait + Sync, G: Gate + Sync>(
     rt: &R,
     opened: Opened,
@@ -68,6 +62,7 @@ fn take_round<R: Threads + Sync, G: Gate + Sync>(
     ensures actors { AreActors shared.now actors.new }
     ensures length { length actors.new ≡ length actors.old }
 {
+    let round = Round::new();
     for_each_chunk_mut(
         rt,
         actors,
@@ -76,49 +71,35 @@ fn take_round<R: Threads + Sync, G: Gate + Sync>(
             requires { (0 < length chunk.old) × All (λ a. IsPassOf shared.now a.pass) chunk.old }
             ensures { AreSame shared.entry.now chunk.entry.now chunk.exit.now }
         {
-            take_turns(shared, chunk, gate);
+            take_turns(shared, chunk, gate, &round);
         },
     );
 }
 
-// At most 4096 turns of these actors, one after the other and over again, until they are in vain.
-fn take_turns<G: Gate>(shared: &Shared, chunk: &mut [Actor], gate: &G)
+// At most 4096 turns of these actors, one after the other and over again, until the round is over.
+fn take_turns<G: Gate>(shared: &Shared, chunk: &mut [Actor], gate: &G, round: &Round)
     requires some { 0 < length chunk.old }
     requires own { All (λ a. IsPassOf shared.now a.pass) chunk.old }
     ensures same { AreSame shared.now chunk.old chunk.new }
 {
     let mut turns = 0;
-    let mut idle = 0;
     let mut at = 0;
-    while turns + IN_A_ROW <= TURNS && idle / chunk.len() < IN_VAIN {
+    let mut waiting = Waiting::default();
+    while turns + IN_A_ROW <= TURNS && !waiting.is_over {
         if at == chunk.len() {
             at = 0;
-            give_way(idle / chunk.len());
+            waiting.look(round);
         }
-        let taken = turns_in_a_row(shared, &mut chunk[at], gate);
+        let taken = turns_in_a_row(shared, &mut chunk[at], gate, round);
+        waiting.note(taken);
         turns += taken;
-        idle = idle_after(idle, taken);
         at += 1;
     }
-}
-
-// How many actors in a row didn't move, after one that took so many turns.
-fn idle_after(idle: usize, taken: u32) -> usize
-    requires few { idle ≤ 4096 }
-    ensures { result ≤ idle + 1 }
-{
-    if taken == 1 { idle + 1 } else { 0 }
-}
-
-// Lets other workers go first, the longer the more often it was in vain.
-fn give_way(in_vain: usize) {
-    for _time in 0..in_vain.min(YIELDS) {
-        thread::yield_now();
-    }
+    round.end();
 }
 
 // Turns of one actor as long as it moves, and how many they were.
-fn turns_in_a_row<G: Gate>(shared: &Shared, actor: &mut Actor, gate: &G) -> u32
+fn turns_in_a_row<G: Gate>(shared: &Shared, actor: &mut Actor, gate: &G, round: &Round) -> u32
     requires own { IsPassOf shared.now actor.old.pass }
     ensures same { IsSame shared.now actor.old actor.new }
     ensures some { (1 ≤ result) × (result ≤ 64) }
@@ -127,6 +108,7 @@ fn turns_in_a_row<G: Gate>(shared: &Shared, actor: &mut Actor, gate: &G) -> u32
         if actor.turn(shared, gate) != Ran::Turned(Turned::Moved) {
             return turns;
         }
+        round.moved();
     }
     IN_A_ROW
 }

@@ -8,6 +8,7 @@ ghost use Rattle.vi_run.specs.Taking.{wished_of};
 ghost use Rattle.vi_run.specs.Turns.{HasTurned, back_with, driver_with};
 
 use crate::backs::back_turn;
+use crate::waiting::{Round, Waiting};
 use crate::{Actor, Free, Opened, Ran, Role};
 use std::test::Fail;
 use vi_backend::{Backend, Wish};
@@ -252,5 +253,33 @@ fn the_second_back_end_reads_what_the_first_wrote(rt: HostRuntime) -> Result<(),
     let (ticket, entry) = log.get(rt.alloc(), 0)?;
     assert!(rt; ticket == 4);
     assert!(rt; entry.bytes.as_slice() == b"\x01".as_slice());
+    Ok(())
+}
+
+#[test]
+fn one_worker_ends_the_round_of_another(rt: HostRuntime) -> Result<(), Fail> {
+    let round = Round::new();
+    let mut waiting = Waiting::default();
+    waiting.look(&round);
+    assert!(rt; !waiting.is_over);
+    round.end();
+    waiting.look(&round);
+    assert!(rt; waiting.is_over);
+    Ok(())
+}
+
+#[test]
+fn a_round_lasts_as_long_as_somebody_moves(rt: HostRuntime) -> Result<(), Fail> {
+    let round = Round::new();
+    let mut waiting = Waiting::default();
+    for look in 0..1000u32 {
+        round.moved();
+        waiting.look(&round);
+        assert!(rt; !waiting.is_over, "{look}");
+    }
+    for _look in 0..1000u32 {
+        waiting.look(&round);
+    }
+    assert!(rt; waiting.is_over);
     Ok(())
 }

@@ -8,7 +8,6 @@ invariant-loop-turns g l = record {
   some : 0 < length l.chunk;
   at : l.at ≤ length l.chunk;
   few : l.turns ≤ 4096;
-  idle : l.idle ≤ l.turns;
 }
 
 abbrev pub decreases-loop-turns : goal.decreases-loop-turns

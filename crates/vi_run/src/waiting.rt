@@ -1,0 +1,76 @@
+//! What the workers of a round see of one another, and how one of them waits.
+use std::sync::atomic::{AtomicBool, AtomicU64, Ordering};
+use std::thread;
+
+/// How often in a row a worker goes over its actors, while no actor of any worker moves, until the round is over.
+const STILL: u32 = 128;
+
+/// How often a worker yields at most after it went over its actors.
+const YIELDS: u32 = 32;
+
+/// A round: in it each worker takes turns of its actors, and then all workers meet.
+#[derive(Drop)]
+pub(crate) struct Round {
+    /// How many turns in which its actor moved there were.
+    moves: AtomicU64,
+    /// Whether a worker has ended it.
+    over: AtomicBool,
+}
+
+impl Round {
+    /// A round that begins.
+    pub(crate) fn new() -> Self {
+        Self {
+            moves: AtomicU64::new(0),
+            over: AtomicBool::new(false),
+        }
+    }
+
+    /// An actor moved.
+    pub(crate) fn moved(&self) {
+        self.moves.fetch_add(1, Ordering::Relaxed);
+    }
+
+    /// Ends the round for all workers: each ends it once it has gone over its actors.
+    pub(crate) fn end(&self) {
+        self.over.store(true, Ordering::Relaxed);
+    }
+}
+
+/// How a worker waits: it yields the longer, the more often its own actors didn't move.
+#[derive(Default, Drop)]
+pub(crate) struct Waiting {
+    /// Whether its round is over: another worker has ended it, or no actor of any worker moves.
+    pub(crate) is_over: bool,
+    /// How often in a row it went over its actors while no actor of the round moved.
+    still: u32,
+    /// The moves of the round when it looked last.
+    seen: u64,
+    /// How often it yields next.
+    yields: u32,
+}
+
+impl Waiting {
+    /// It went over its actors: lets other workers go first, and looks at the round.
+    pub(crate) fn look(&mut self, round: &Round) {
+        for _time in 0..self.yields {
+            thread::yield_now();
+        }
+        self.yields = self.yields.saturating_add(1).min(YIELDS);
+        let moves = round.moves.load(Ordering::Relaxed);
+        self.still = if moves == self.seen {
+            self.still.saturating_add(1)
+        } else {
+            0
+        };
+        self.seen = moves;
+        self.is_over = STILL <= self.still || round.over.load(Ordering::Relaxed);
+    }
+
+    /// An actor of its own took so many turns, of which only the last may be without a move.
+    pub(crate) fn note(&mut self, taken: u32) {
+        if 1 < taken {
+            self.yields = 0;
+        }
+    }
+}
