@@ -8,6 +8,7 @@ use std::alloc::Global;
 use std::sync::Wait;
 use std::sync::atomic::{AtomicU64, Ordering};
 use std::test::Fail;
+use std::thread;
 use std::thread::Threads;
 use vi_run::{Free, Gate, Point};
 use vi_script::Who;
@@ -125,14 +126,16 @@ struct Meeting {
 }
 
 impl Meeting {
-    /// Stands there until the other one does too, or so many looks long.
+    /// Stands there until the other one does too, or so many looks long. It yields between them, since the other one's worker may be
+    /// on the same processor.
     fn stand(&self, own: &AtomicU64, other: &AtomicU64) {
         own.store(1, Ordering::SeqCst);
-        for _look in 0..1_000_000u32 {
+        for _look in 0..1_000u32 {
             if other.load(Ordering::SeqCst) == 1 {
                 self.met.store(1, Ordering::SeqCst);
                 break;
             }
+            thread::yield_now();
         }
         own.store(0, Ordering::SeqCst);
     }
