@@ -21,7 +21,7 @@ impl Model for ControlBox {
 }
 
 impl ControlBox {
-    /// An error is want of memory.
+    /// A block of its own for the control. An error is want of memory.
     pub(crate) fn build(alloc: Global, control: Control) -> Result<ControlBox, AllocError>
         ensures { IfOk result (λ b. b ≡ control) }
     {
@@ -30,18 +30,21 @@ impl ControlBox {
         })
     }
 
+    /// The control that lies in this block.
     pub(crate) fn of(inner: Box<Control>) -> ControlBox
         ensures { result ≡ inner.value }
     {
         ControlBox { inner }
     }
 
+    /// The block with the control, as who wins it takes it.
     pub(crate) fn into_box(self) -> Box<Control>
         ensures { result.value ≡ self }
     {
         self.inner
     }
 
+    /// The control itself, once the object is closed.
     pub(crate) fn into_inner(self) -> Control
         ensures { result ≡ self }
     {
