@@ -72,25 +72,3 @@ impl Bytes {
         self.bytes.is_empty()
     }
 }
-
-#[cfg(test)]
-mod tests {
-    use super::*;
-    use std::test::Fail;
-
-    #[test]
-    fn keeps_its_bytes(rt: HostRuntime) -> Result<(), Fail> {
-        let bytes = Bytes::of(rt.alloc(), &[0x7f, 0, 255])?;
-        assert_eq!(rt; bytes.as_slice(), [0x7f, 0, 255].as_slice());
-        assert_eq!(rt; bytes.len(), 3);
-        assert!(rt; !bytes.is_empty());
-        let mut vec = bytes.into_vec();
-        vec.push(1)?;
-        assert_eq!(rt;
-            Bytes::from_vec(vec).as_slice(),
-            [0x7f, 0, 255, 1].as_slice()
-        );
-        assert!(rt; Bytes::new(rt.alloc()).is_empty());
-        Ok(())
-    }
-}

@@ -88,30 +88,3 @@ impl<T: Copy> Items<T> {
         Ok(Items { items })
     }
 }
-
-#[cfg(test)]
-mod tests {
-    use super::*;
-    use crate::{Region, RegionKind, Span};
-    use std::test::Fail;
-
-    #[test]
-    fn keeps_its_elements(rt: HostRuntime) -> Result<(), Fail> {
-        let span = Span::new(0x1000, 0x1fff).ok_or("a span")?;
-        let msi = Region {
-            kind: RegionKind::Msi,
-            span,
-        };
-        let items = Items::of(rt.alloc(), &[msi])?;
-        assert_eq!(rt; items.get(0).copied(), Some(msi));
-        assert_eq!(rt; items.get(1).copied(), None);
-        assert_eq!(rt; items.len(), 1);
-        assert!(rt; !items.is_empty());
-        let mut vec = items.into_vec();
-        vec.push(msi)?;
-        assert_eq!(rt; Items::from_vec(vec).as_slice(), [msi, msi].as_slice());
-        let none: Items<Region> = Items::new(rt.alloc());
-        assert!(rt; none.is_empty());
-        Ok(())
-    }
-}

@@ -43,34 +43,3 @@ pub fn cut(iova: u64, len: u32, k: u32) -> Part
         len: to - from,
     }
 }
-
-#[cfg(test)]
-mod tests {
-    use super::*;
-
-    #[test]
-    fn transfers_are_cut_at_pages(rt: HostRuntime) {
-        let table = [
-            (0x1ff0, 4200, 3, 1, 0x1ff0, 16),
-            (0x1ff0, 4200, 3, 2, 0x2000, 4096),
-            (0x1ff0, 4200, 3, 3, 0x3000, 88),
-            (0x1000, 4096, 1, 1, 0x1000, 4096),
-            (0x1fff, 2, 2, 2, 0x2000, 1),
-            (0xfff, 65536, 17, 1, 0xfff, 1),
-            (0xfff, 65536, 17, 17, 0x10000, 4095),
-            (u64::MAX, 1, 1, 1, u64::MAX, 1),
-            (u64::MAX - 4096, 4097, 2, 2, u64::MAX - 4095, 4096),
-        ];
-        for (iova, len, count, k, first, size) in table {
-            assert_eq!(rt; parts(iova, len), count, "of {len} bytes from {iova:#x}");
-            assert_eq!(rt;
-                cut(iova, len, k),
-                Part {
-                    iova: first,
-                    len: size
-                },
-                "part {k} from {iova:#x}"
-            );
-        }
-    }
-}

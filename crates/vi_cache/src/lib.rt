@@ -6,5 +6,3 @@ mod entries;
 
 pub use cache::Cache;
 
-#[cfg(test)]
-mod tests;

@@ -8,5 +8,3 @@ mod refusal;
 pub use config::{Config, decode};
 pub use refusal::ConfigFault;
 
-#[cfg(test)]
-mod tests;

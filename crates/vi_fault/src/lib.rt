@@ -7,5 +7,3 @@ mod refusal;
 pub use record::{FaultRecord, decode};
 pub use refusal::FaultFault;
 
-#[cfg(test)]
-mod tests;

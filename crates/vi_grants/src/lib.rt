@@ -7,5 +7,3 @@ mod row;
 pub use grants::Grants;
 pub use row::Grant;
 
-#[cfg(test)]
-mod tests;

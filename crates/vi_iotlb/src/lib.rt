@@ -14,5 +14,3 @@ pub use frame::{Frame, USER_BASE};
 pub use reading::decode;
 pub use refusal::FrameFault;
 
-#[cfg(test)]
-mod tests;

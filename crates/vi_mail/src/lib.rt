@@ -10,5 +10,3 @@ mod row;
 pub use mail::{Full, Mail};
 pub use row::Lane;
 
-#[cfg(test)]
-mod tests;

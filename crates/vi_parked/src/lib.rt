@@ -6,5 +6,3 @@ mod parked;
 
 pub use parked::Parked;
 
-#[cfg(test)]
-mod tests;

@@ -10,5 +10,3 @@ pub use encoding::encode;
 pub use reading::decode;
 pub use refusal::PropFault;
 
-#[cfg(test)]
-mod tests;

@@ -5,5 +5,3 @@ mod ranges;
 
 pub use ranges::Ranges;
 
-#[cfg(test)]
-mod tests;

@@ -5,5 +5,3 @@ mod reserved;
 
 pub use reserved::Reserved;
 
-#[cfg(test)]
-mod tests;

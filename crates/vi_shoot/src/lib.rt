@@ -11,5 +11,3 @@ pub use ops::{Op, Ops, Token};
 pub use waiting::Waiting;
 pub use what::{Reach, What};
 
-#[cfg(test)]
-mod tests;

@@ -14,5 +14,3 @@ mod tree;
 pub use steps::Steps;
 pub use tree::Tree;
 
-#[cfg(test)]
-mod tests;

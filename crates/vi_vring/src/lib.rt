@@ -16,5 +16,3 @@ mod walking;
 pub use chain::{Break, Chain, Full, Head, Popped};
 pub use ring::Ring;
 
-#[cfg(test)]
-mod tests;
