@@ -5,4 +5,3 @@ mod cache;
 mod entries;
 
 pub use cache::Cache;
-

@@ -7,4 +7,3 @@ mod refusal;
 
 pub use config::{Config, decode};
 pub use refusal::ConfigFault;
-

@@ -6,4 +6,3 @@ mod refusal;
 
 pub use record::{FaultRecord, decode};
 pub use refusal::FaultFault;
-

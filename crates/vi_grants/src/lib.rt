@@ -6,4 +6,3 @@ mod row;
 
 pub use grants::Grants;
 pub use row::Grant;
-

@@ -13,4 +13,3 @@ pub use encoding::encode;
 pub use frame::{Frame, USER_BASE};
 pub use reading::decode;
 pub use refusal::FrameFault;
-

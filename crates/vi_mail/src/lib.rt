@@ -9,4 +9,3 @@ mod row;
 
 pub use mail::{Full, Mail};
 pub use row::Lane;
-

@@ -4,4 +4,3 @@
 mod page;
 
 pub use page::Page;
-

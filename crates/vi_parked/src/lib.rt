@@ -5,4 +5,3 @@
 mod parked;
 
 pub use parked::Parked;
-

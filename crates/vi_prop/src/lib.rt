@@ -9,4 +9,3 @@ mod wire;
 pub use encoding::encode;
 pub use reading::decode;
 pub use refusal::PropFault;
-

@@ -4,4 +4,3 @@
 mod ranges;
 
 pub use ranges::Ranges;
-

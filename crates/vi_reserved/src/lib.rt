@@ -4,4 +4,3 @@
 mod reserved;
 
 pub use reserved::Reserved;
-

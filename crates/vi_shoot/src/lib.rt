@@ -10,4 +10,3 @@ mod what;
 pub use ops::{Op, Ops, Token};
 pub use waiting::Waiting;
 pub use what::{Reach, What};
-

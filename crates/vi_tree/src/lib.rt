@@ -13,4 +13,3 @@ mod tree;
 
 pub use steps::Steps;
 pub use tree::Tree;
-

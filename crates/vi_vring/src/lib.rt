@@ -15,4 +15,3 @@ mod walking;
 
 pub use chain::{Break, Chain, Full, Head, Popped};
 pub use ring::Ring;
-

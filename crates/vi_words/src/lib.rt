@@ -8,4 +8,3 @@ mod words;
 pub use hex_word::hex_bytes;
 pub use numbers::{digit, name_number, number};
 pub use words::{Lines, Words, first_such, has_bad_byte, is_word, says_nothing};
-
