@@ -2,8 +2,8 @@
 use Rattle.std.proofs.Common.{zero, ◌≡◌, ℕ, suc, ◌+◌, ◌-◌, ◌≤◌, Bool, ◌||◌, Some, None, length, take, drop, refl, ap, ◌∙◌, arith}
 use Rattle.std.specs.Prelude.{map}
 use Rattle.std.specs.List.{list_any, range_with_len, slice_get}
-use Rattle.vi_script.specs.Value.{ScriptValue}
-use Rattle.vi_script.specs.Calls.{call_of, line_of}
+use Rattle.vi_lines.specs.Value.{ScriptValue}
+use Rattle.vi_lines.specs.Calls.{call_of, line_of}
 use Rattle.vi_model.specs.Lanes.{Update, Invalidate}
 use Rattle.vi_model.specs.Places.{back_at}
 use Rattle.vi_model.specs.Posted.{is_awaited}

@@ -4,9 +4,9 @@ use Rattle.std.specs.Prelude.{map}
 use Rattle.std.specs.List.{range_with_len, slice_get}
 use Rattle.std.proofs.lemmas.List.Elements.{All-filter, All-nil}
 use Rattle.vi_history.specs.declared.call.Caller.{Caller}
-use Rattle.vi_script.specs.declared.line.Line.{Line}
-use Rattle.vi_script.specs.Value.{ScriptValue}
-use Rattle.vi_script.specs.Calls.{HasTransfers, TransfersWell, lines_of, line_of, same_caller}
+use Rattle.vi_lines.specs.declared.line.Line.{Line}
+use Rattle.vi_lines.specs.Value.{ScriptValue}
+use Rattle.vi_lines.specs.Calls.{HasTransfers, TransfersWell, lines_of, line_of, same_caller}
 use Rattle.vi_model.specs.Posted.{is_awaited}
 use Rattle.vi_backend.specs.Own.{IsOwn, IsGrantedLease, awaited_of, listed}
 

@@ -2,7 +2,7 @@
 use Rattle.std.specs.Prelude.{◌==◌, ℕ, ◌+◌, Bool, true, false, List}
 use Rattle.vi_bytes.specs.declared.lease.Lease.{Lease}
 use Rattle.vi_history.specs.declared.call.Caller.TheVariants.{Back}
-use Rattle.vi_script.specs.Calls.{parts_in}
+use Rattle.vi_lines.specs.Calls.{parts_in}
 use Rattle.vi_model.specs.Starts.{entry_of}
 use Rattle.vi_model.specs.Serves.{page_of}
 use Rattle.vi_model.specs.Backs.{Seat, Access, Accessed, work_page, work_answer, moved_seat}

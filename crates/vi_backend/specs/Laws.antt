@@ -2,7 +2,7 @@
 use Rattle.std.specs.Prelude.{◌≡◌, ℕ, Bool, ◌||◌, List, [], ◌∷◌, All, Some, None}
 use Rattle.vi_bytes.specs.declared.lease.Lease.{Lease}
 use Rattle.vi_iotlb.specs.declared.frame.Frame.TheVariants as frame
-use Rattle.vi_script.specs.Value.{ScriptValue}
+use Rattle.vi_lines.specs.Value.{ScriptValue}
 use Rattle.vi_model.specs.Lanes.{Down, Miss}
 use Rattle.vi_model.specs.Control.{Link, Control}
 use Rattle.vi_model.specs.Backs.{Seat, Access, wish, ask, access, receive, heard, finds, current_awaits}

@@ -4,10 +4,10 @@ use Rattle.std.specs.List.{range_with_len}
 use Rattle.vi_bytes.specs.declared.lease.Lease.{Lease}
 use Rattle.vi_history.specs.declared.call.Caller.{Caller}
 use Rattle.vi_iotlb.specs.Fields.{IsGrant}
-use Rattle.vi_script.specs.declared.line.Await.{Await}
-use Rattle.vi_script.specs.declared.line.Line.{Line}
-use Rattle.vi_script.specs.Value.{ScriptValue}
-use Rattle.vi_script.specs.Calls.{TransfersWell, lines_of, same_caller}
+use Rattle.vi_lines.specs.declared.line.Await.{Await}
+use Rattle.vi_lines.specs.declared.line.Line.{Line}
+use Rattle.vi_lines.specs.Value.{ScriptValue}
+use Rattle.vi_lines.specs.Calls.{TransfersWell, lines_of, same_caller}
 use Rattle.vi_model.specs.Places.{id_at, back_at}
 use Rattle.vi_model.specs.Posted.{is_awaited}
 use Rattle.vi_model.specs.Backs.{Seat}

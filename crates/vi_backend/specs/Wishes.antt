@@ -5,9 +5,9 @@ use Rattle.vi_bytes.specs.declared.lease.Lease.{Lease}
 use Rattle.vi_history.specs.declared.call.Caller.TheVariants.{Back}
 use Rattle.vi_iotlb.specs.declared.frame.Frame.{Frame}
 use Rattle.vi_iotlb.specs.declared.frame.Frame.TheVariants as frame
-use Rattle.vi_script.specs.declared.line.Line.{Line}
-use Rattle.vi_script.specs.declared.line.Await.{Await}
-use Rattle.vi_script.specs.Calls.{call_in, awaits_in}
+use Rattle.vi_lines.specs.declared.line.Line.{Line}
+use Rattle.vi_lines.specs.declared.line.Await.{Await}
+use Rattle.vi_lines.specs.Calls.{call_in, awaits_in}
 use Rattle.vi_model.specs.Lanes.{Miss}
 use Rattle.vi_model.specs.Backs.{Seat, Access, access_in, is_empty, current_wish, target_of}
 use Rattle.vi_model.specs.Backs as model

@@ -5,7 +5,7 @@ ghost use Rattle.std.specs.Option.{option_map};
 ghost use Rattle.vi_bytes.specs.declared.span.TheConstants.{PAGE};
 ghost use Rattle.vi_bytes.specs.Spans.{IsProper};
 ghost use Rattle.vi_iotlb.specs.Frames.{IsSendable};
-ghost use Rattle.vi_script.specs.Calls.{HasTransfers};
+ghost use Rattle.vi_lines.specs.Calls.{HasTransfers};
 ghost use Rattle.vi_model.specs.Caches.{put, untouched};
 ghost use Rattle.vi_model.specs.Places.{place_count};
 ghost use Rattle.vi_model.specs.Serves.{page_of};
@@ -25,8 +25,8 @@ use vi_bytes::{Lease, Span, page_of};
 use vi_cache::Cache;
 use vi_history::Caller;
 use vi_iotlb::Frame;
+use vi_lines::{Await, Line, Script};
 use vi_memory::Page;
-use vi_script::{Await, Line, Script};
 
 /// How many accesses a back end makes before it must receive.
 const MOST_ACCESSES: u32 = 16;

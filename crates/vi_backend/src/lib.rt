@@ -10,6 +10,3 @@ mod wish;
 
 pub use backend::Backend;
 pub use wish::{Done, Wish};
-
-#[cfg(test)]
-mod tests;

@@ -1,13 +1,13 @@
 //! A back end's lines, copied from the script.
 ghost use Rattle.std.specs.Prelude.{◌≡◌, ◌++◌, fold, IfOk, OnOk};
 ghost use Rattle.std.specs.Option.{option_copied};
-ghost use Rattle.vi_script.specs.Calls.{lines_of};
+ghost use Rattle.vi_lines.specs.Calls.{lines_of};
 ghost use Rattle.vi_backend.specs.Own.{awaited_of, listed, marked, marked_by};
 
 use std::alloc::{AllocError, Global};
 use vi_bytes::{Bytes, Items};
 use vi_history::Caller;
-use vi_script::{Await, Job, Line, Script};
+use vi_lines::{Await, Job, Line, Script};
 
 fn copied_job(alloc: Global, job: &Job) -> Result<Job, AllocError>
     ensures { IfOk result (λ copy. copy ≡ job.now) }

@@ -4,7 +4,7 @@ ghost use Rattle.std.specs.Option.{option_map};
 ghost use Rattle.vi_bytes.specs.Leases.{has_page};
 ghost use Rattle.vi_history.specs.Translation.{permits};
 ghost use Rattle.vi_history.specs.declared.call.Caller.{Caller};
-ghost use Rattle.vi_script.specs.Calls.{TransfersWell, parts_of, back_call};
+ghost use Rattle.vi_lines.specs.Calls.{TransfersWell, parts_of, back_call};
 ghost use Rattle.vi_model.specs.Backs.{access_in, work_page, work_answer};
 ghost use Rattle.vi_model.specs.Starts.{entry_of};
 ghost use Rattle.vi_backend.specs.Own.{IsGrantedLease};
@@ -14,8 +14,8 @@ use crate::{Done, Wish};
 use vi_bytes::{Lease, Need, PAGE, Part, cut, page_of};
 use vi_history::{Caller, Kind, Mark};
 use vi_iotlb::Frame;
+use vi_lines::Job;
 use vi_memory::Page;
-use vi_script::Job;
 
 /// The addresses of a part, and what they are needed for.
 #[derive(Clone, Copy, Debug, PartialEq, Eq)]

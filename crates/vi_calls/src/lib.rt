@@ -11,6 +11,3 @@ mod row;
 pub use calls::{Calls, Collected, Request};
 pub use reply::Reply;
 pub use row::Setting;
-
-#[cfg(test)]
-mod tests;

@@ -5,10 +5,10 @@ use Rattle.std.proofs.lemmas.List.{take-take}
 use Rattle.std.proofs.lemmas.List.Sums.{sum_by_more, sum_by-take-le}
 use Rattle.std.proofs.lemmas.Bool.Decides.{nat_tests}
 use Rattle.vi_history.specs.declared.call.Caller.{Caller}
-use Rattle.vi_script.specs.declared.line.Line.{Line}
-use Rattle.vi_script.specs.Calls.{lines_of, line_of}
-use Rattle.vi_script.specs.Order.{batch_of}
-use Rattle.vi_script.specs.Value.{ScriptValue}
+use Rattle.vi_lines.specs.declared.line.Line.{Line}
+use Rattle.vi_lines.specs.Calls.{lines_of, line_of}
+use Rattle.vi_lines.specs.Order.{batch_of}
+use Rattle.vi_lines.specs.Value.{ScriptValue}
 use Rattle.vi_history.specs.declared.call.Caller.TheVariants.{Driver}
 use Rattle.vi_check.specs.Seen.{Seen, ends_batch_in, comes_next, done_first}
 use Rattle.vi_check.proofs.EnteredLemmas.{get_or-some, slice_get-none}

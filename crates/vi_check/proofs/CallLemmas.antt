@@ -11,18 +11,18 @@ use Rattle.vi_history.specs.declared.call.Call.TheVariants as call
 use Rattle.vi_history.specs.declared.call.Caller.{Caller}
 use Rattle.vi_history.specs.declared.call.Caller.TheVariants.{Driver, Back}
 use Rattle.vi_plain.specs.Conditions.{IsInOnePage, IsPlainCall}
-use Rattle.vi_script.specs.declared.job.Job.{Job}
-use Rattle.vi_script.specs.declared.job.Job.TheVariants as job
-use Rattle.vi_script.specs.declared.line.Line.{Line}
-use Rattle.vi_script.specs.declared.line.Await.{Await}
-use Rattle.vi_script.specs.Calls.{same_caller, lines_of, line_of, call_of, call_in, driver_call, back_call, part_bytes, parts_of, parts_in, part_count_of, awaits_of, awaits_in, TransfersWell}
-use Rattle.vi_script.specs.Judging.{job_runs_over, awaits_well}
-use Rattle.vi_script.specs.Limits.{is_job}
-use Rattle.vi_script.specs.Valid.{IsValid, is_line, is_caller_in, does, AwaitAbove}
-use Rattle.vi_script.specs.Value.{ScriptValue}
+use Rattle.vi_lines.specs.declared.job.Job.{Job}
+use Rattle.vi_lines.specs.declared.job.Job.TheVariants as job
+use Rattle.vi_lines.specs.declared.line.Line.{Line}
+use Rattle.vi_lines.specs.declared.line.Await.{Await}
+use Rattle.vi_lines.specs.Calls.{same_caller, lines_of, line_of, call_of, call_in, driver_call, back_call, part_bytes, parts_of, parts_in, part_count_of, awaits_of, awaits_in, TransfersWell}
+use Rattle.vi_lines.specs.Rules.{job_runs_over, awaits_well}
+use Rattle.vi_lines.specs.Limits.{is_job}
+use Rattle.vi_lines.specs.Valid.{IsValid, is_line, is_caller_in, does, AwaitAbove}
+use Rattle.vi_lines.specs.Value.{ScriptValue}
 use Rattle.vi_bytes.proofs.PartLemmas.{part_count-le}
-use Rattle.vi_script.proofs.IndexLemmas.{same_caller-eq, length-lines_of-le, line_of-caller}
-use Rattle.vi_script.proofs.TransferLemmas.{HasTransfers-from_valid}
+use Rattle.vi_lines.proofs.IndexLemmas.{same_caller-eq, length-lines_of-le, line_of-caller}
+use Rattle.vi_lines.proofs.TransferLemmas.{HasTransfers-from_valid}
 use Rattle.vi_check.proofs.EnteredLemmas.{get_or-some}
 
 -- an element that a filter keeps passes its test, and what holds of all holds of it

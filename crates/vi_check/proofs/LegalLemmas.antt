@@ -18,12 +18,12 @@ use Rattle.vi_history.specs.declared.entry.Entry.{Entry}
 use Rattle.vi_history.specs.declared.outcome.Outcome.{Outcome}
 use Rattle.vi_order.specs.Finished.{IsFinished}
 use Rattle.vi_order.proofs.Ordered.{ordered_one_by_one}
-use Rattle.vi_script.specs.Calls.{lines_of, awaits_of}
-use Rattle.vi_script.specs.Legal.{AreCalls, IsLegalHistory, HasRecords}
-use Rattle.vi_script.specs.Order.{Place, entries_at, batch_of, due_place, is_whole, IsNext, IsDue, AreDue}
-use Rattle.vi_script.specs.Ordered.{IsOrdered}
-use Rattle.vi_script.specs.Valid.{IsValid, has_endpoint}
-use Rattle.vi_script.specs.Value.{ScriptValue}
+use Rattle.vi_lines.specs.Calls.{lines_of, awaits_of}
+use Rattle.vi_lines.specs.Legal.{AreCalls, IsLegalHistory, HasRecords}
+use Rattle.vi_lines.specs.Order.{Place, entries_at, batch_of, due_place, is_whole, IsNext, IsDue, AreDue}
+use Rattle.vi_lines.specs.Ordered.{IsOrdered}
+use Rattle.vi_lines.specs.Valid.{IsValid, has_endpoint}
+use Rattle.vi_lines.specs.Value.{ScriptValue}
 use Rattle.vi_check.specs.declared.verdict.Verdict.{Verdict}
 use Rattle.vi_check.specs.declared.verdict.Verdict.TheVariants.{Legal, Wrong, Order, Extra, Missing, Faults}
 use Rattle.vi_check.specs.Answers.{same_answer, answered}

@@ -8,8 +8,8 @@ use Rattle.std.proofs.lemmas.List.{at_drop_more}
 use Rattle.vi_bytes.specs.declared.region.EndpointSetup.{EndpointSetup}
 use Rattle.vi_history.specs.declared.call.Caller.{Caller}
 use Rattle.vi_history.specs.declared.call.Caller.TheVariants.{Driver, Back}
-use Rattle.vi_script.specs.Calls.{lines_of}
-use Rattle.vi_script.specs.Value.{ScriptValue}
+use Rattle.vi_lines.specs.Calls.{lines_of}
+use Rattle.vi_lines.specs.Value.{ScriptValue}
 use Rattle.vi_check.specs.declared.verdict.Verdict.TheVariants.{Missing}
 use Rattle.vi_check.specs.Seen.{Seen, FitsScript, done_first, missing_in, first_missing_in}
 use Rattle.vi_check.proofs.EnteredLemmas.{get_or-none}

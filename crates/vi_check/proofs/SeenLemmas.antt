@@ -13,11 +13,11 @@ use Rattle.vi_history.specs.declared.call.Call.{Call}
 use Rattle.vi_history.specs.declared.call.Caller.{Caller}
 use Rattle.vi_history.specs.declared.call.Caller.TheVariants.{Driver, Back}
 use Rattle.vi_history.specs.declared.entry.Entry.{Entry}
-use Rattle.vi_script.specs.declared.line.Await.{Await}
-use Rattle.vi_script.specs.Calls.{same_caller, lines_of, awaits_of}
-use Rattle.vi_script.specs.Order.{entries_at, batch_of, due_place, place_after, is_whole}
-use Rattle.vi_script.specs.Valid.{IsValid, has_endpoint}
-use Rattle.vi_script.specs.Value.{ScriptValue}
+use Rattle.vi_lines.specs.declared.line.Await.{Await}
+use Rattle.vi_lines.specs.Calls.{same_caller, lines_of, awaits_of}
+use Rattle.vi_lines.specs.Order.{entries_at, batch_of, due_place, place_after, is_whole}
+use Rattle.vi_lines.specs.Valid.{IsValid, has_endpoint}
+use Rattle.vi_lines.specs.Value.{ScriptValue}
 use Rattle.vi_check.specs.declared.progress.Next.{Next}
 use Rattle.vi_check.specs.Due.{is_entered, is_past_fault, is_next, is_due, line_numbers, call_at}
 use Rattle.vi_check.specs.Seen.{FitsScript, nothing_seen, has_entry, next_in, next_of, has_passed, has_finished, done_first, comes_next, may_come, next_at, moved_if, with_entry_of, with_entry, entered_lines, seen_of}

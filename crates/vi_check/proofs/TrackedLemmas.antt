@@ -16,11 +16,11 @@ use Rattle.vi_history.specs.declared.call.Caller.{Caller}
 use Rattle.vi_history.specs.declared.call.Caller.TheVariants.{Driver, Back}
 use Rattle.vi_history.specs.declared.entry.Entry.{Entry}
 use Rattle.vi_history.specs.Kinds.{is_fault}
-use Rattle.vi_script.specs.Calls.{same_caller, lines_of, part_count_of}
-use Rattle.vi_script.specs.Order.{Place, ends_block, is_whole, entries_at, place_after, due_from, due_place, IsNext, IsDue, AreDue, IsOrderedSoFar}
-use Rattle.vi_script.specs.Valid.{IsValid}
-use Rattle.vi_script.specs.Value.{ScriptValue}
-use Rattle.vi_script.proofs.IndexLemmas.{same_caller-eq, same_caller-self}
+use Rattle.vi_lines.specs.Calls.{same_caller, lines_of, part_count_of}
+use Rattle.vi_lines.specs.Order.{Place, ends_block, is_whole, entries_at, place_after, due_from, due_place, IsNext, IsDue, AreDue, IsOrderedSoFar}
+use Rattle.vi_lines.specs.Valid.{IsValid}
+use Rattle.vi_lines.specs.Value.{ScriptValue}
+use Rattle.vi_lines.proofs.IndexLemmas.{same_caller-eq, same_caller-self}
 use Rattle.vi_check.specs.Due.{is_of, is_entered, is_past_fault, call_at, calls_of}
 use Rattle.vi_check.proofs.CallLemmas.{IsGood, HasOwnPart, good}
 

@@ -15,10 +15,10 @@ use Rattle.vi_history.specs.declared.call.Caller.{Caller}
 use Rattle.vi_history.specs.declared.call.Caller.TheVariants.{Driver, Back}
 use Rattle.vi_history.specs.declared.entry.Entry.{Entry}
 use Rattle.vi_history.specs.declared.outcome.Outcome.{Outcome}
-use Rattle.vi_script.specs.Calls.{lines_of}
-use Rattle.vi_script.specs.Order.{Place, entries_at, batch_of, due_place}
-use Rattle.vi_script.specs.Valid.{is_caller_in}
-use Rattle.vi_script.specs.Value.{ScriptValue}
+use Rattle.vi_lines.specs.Calls.{lines_of}
+use Rattle.vi_lines.specs.Order.{Place, entries_at, batch_of, due_place}
+use Rattle.vi_lines.specs.Valid.{is_caller_in}
+use Rattle.vi_lines.specs.Value.{ScriptValue}
 use Rattle.vi_check.specs.declared.verdict.Verdict.{Verdict}
 use Rattle.vi_check.specs.declared.verdict.Verdict.TheVariants.{Legal, Missing, Faults}
 use Rattle.vi_check.specs.Due.{is_next, first_due, callers_of}

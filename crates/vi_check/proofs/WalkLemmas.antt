@@ -20,12 +20,12 @@ use Rattle.vi_history.specs.declared.call.Caller.TheVariants.{Driver, Back}
 use Rattle.vi_history.specs.declared.entry.Entry.{Entry}
 use Rattle.vi_plain.specs.Conditions.{IsPlainSetup, HasFewRegions}
 use Rattle.vi_plain.specs.Kept.{IsGranule}
-use Rattle.vi_script.specs.Calls.{lines_of, awaits_of}
-use Rattle.vi_script.specs.Limits.{is_granule}
-use Rattle.vi_script.specs.Order.{Place, entries_at, batch_of, due_place, is_whole, IsNext, IsDue, IsOrderedSoFar}
-use Rattle.vi_script.specs.Valid.{IsValid, AreEndpoints}
-use Rattle.vi_script.specs.Value.{ScriptValue}
-use Rattle.vi_script.proofs.TransferLemmas.{HasTransfers-from_valid}
+use Rattle.vi_lines.specs.Calls.{lines_of, awaits_of}
+use Rattle.vi_lines.specs.Limits.{is_granule}
+use Rattle.vi_lines.specs.Order.{Place, entries_at, batch_of, due_place, is_whole, IsNext, IsDue, IsOrderedSoFar}
+use Rattle.vi_lines.specs.Valid.{IsValid, AreEndpoints}
+use Rattle.vi_lines.specs.Value.{ScriptValue}
+use Rattle.vi_lines.proofs.TransferLemmas.{HasTransfers-from_valid}
 use Rattle.vi_check.specs.declared.verdict.Verdict.TheVariants.{Wrong, Order, Extra}
 use Rattle.vi_check.specs.Answers.{same_answer, answered}
 use Rattle.vi_check.specs.Due.{call_at, calls_of, is_entered, is_past_fault, is_next, is_due, line_numbers}

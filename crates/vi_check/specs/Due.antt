@@ -7,9 +7,9 @@ use Rattle.vi_history.specs.declared.call.Caller.{Caller}
 use Rattle.vi_history.specs.declared.call.Caller.TheVariants.{Driver, Back}
 use Rattle.vi_history.specs.declared.entry.Entry.{Entry}
 use Rattle.vi_history.specs.Kinds.{is_fault}
-use Rattle.vi_script.specs.Value.{ScriptValue}
-use Rattle.vi_script.specs.Calls.{same_caller, lines_of, call_of, awaits_of}
-use Rattle.vi_script.specs.Order.{Place, entries_at, batch_of, due_place, is_whole}
+use Rattle.vi_lines.specs.Value.{ScriptValue}
+use Rattle.vi_lines.specs.Calls.{same_caller, lines_of, call_of, awaits_of}
+use Rattle.vi_lines.specs.Order.{Place, entries_at, batch_of, due_place, is_whole}
 
 -- the script's call that an entry is of
 abbrev pub call_at : ScriptValue → Entry → Option Call

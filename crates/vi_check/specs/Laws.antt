@@ -2,10 +2,10 @@
 use Rattle.std.specs.Prelude.{◌≡◌, ◌↔◌}
 use Rattle.vi_history.specs.Outcomes.{IsWellMade}
 use Rattle.vi_history.specs.declared.outcome.Outcome.{Outcome}
-use Rattle.vi_script.specs.Value.{ScriptValue}
-use Rattle.vi_script.specs.Valid.{IsValid}
-use Rattle.vi_script.specs.Ordered.{IsOrdered}
-use Rattle.vi_script.specs.Legal.{IsLegalHistory, HasRecords}
+use Rattle.vi_lines.specs.Value.{ScriptValue}
+use Rattle.vi_lines.specs.Valid.{IsValid}
+use Rattle.vi_lines.specs.Ordered.{IsOrdered}
+use Rattle.vi_lines.specs.Legal.{IsLegalHistory, HasRecords}
 use Rattle.vi_check.specs.Verdicts.{verdict}
 use Rattle.vi_check.specs.declared.verdict.Verdict.TheVariants.{Legal}
 

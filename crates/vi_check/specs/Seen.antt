@@ -11,10 +11,10 @@ use Rattle.vi_history.specs.declared.call.Caller.{Caller}
 use Rattle.vi_history.specs.declared.call.Caller.TheVariants.{Driver, Back}
 use Rattle.vi_history.specs.declared.entry.Entry.{Entry}
 use Rattle.vi_history.specs.declared.outcome.Shown.{Shown}
-use Rattle.vi_script.specs.declared.line.Line.{Line}
-use Rattle.vi_script.specs.Value.{ScriptValue}
-use Rattle.vi_script.specs.Calls.{HasTransfers, lines_of, awaits_of}
-use Rattle.vi_script.specs.Order.{Place, entries_at, batch_of, due_place, place_after}
+use Rattle.vi_lines.specs.declared.line.Line.{Line}
+use Rattle.vi_lines.specs.Value.{ScriptValue}
+use Rattle.vi_lines.specs.Calls.{HasTransfers, lines_of, awaits_of}
+use Rattle.vi_lines.specs.Order.{Place, entries_at, batch_of, due_place, place_after}
 use Rattle.vi_check.specs.Due.{line_numbers}
 use Rattle.vi_check.specs.Verdicts.{device_after, records_of}
 use Rattle.vi_check.specs.declared.progress.Next.{Next}

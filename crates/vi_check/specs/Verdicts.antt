@@ -12,7 +12,7 @@ use Rattle.vi_history.specs.declared.call.Caller.{Caller}
 use Rattle.vi_history.specs.declared.entry.Entry.{Entry}
 use Rattle.vi_history.specs.declared.outcome.Outcome.{Outcome}
 use Rattle.vi_history.specs.declared.outcome.Shown.{Shown}
-use Rattle.vi_script.specs.Value.{ScriptValue}
+use Rattle.vi_lines.specs.Value.{ScriptValue}
 use Rattle.vi_check.specs.Answers.{same_answer, answered}
 use Rattle.vi_check.specs.Due.{call_at, calls_of, is_entered, is_past_fault, is_due, first_due, callers_of}
 use Rattle.vi_check.specs.Faults.{bad_faults}

@@ -1,7 +1,7 @@
 //! The verdict on a report of a script.
 ghost use Rattle.std.specs.Prelude.{◌≡◌, IfOk};
 ghost use Rattle.vi_history.specs.Outcomes.{IsWellMade};
-ghost use Rattle.vi_script.specs.Valid.{IsValid};
+ghost use Rattle.vi_lines.specs.Valid.{IsValid};
 ghost use Rattle.vi_check.specs.Laws.{LegalExactly};
 ghost use Rattle.vi_check.specs.Verdicts.{verdict};
 
@@ -10,7 +10,7 @@ use crate::faults::bad_faults;
 use crate::walk::Walk;
 use std::alloc::{AllocError, Global};
 use vi_history::Outcome;
-use vi_script::Script;
+use vi_lines::Script;
 
 /// The verdict on a report of a script. The entries are gone through from the first on. One is `Extra` where it answers
 /// no call of the script that is left, `Order` where its call isn't due or an awaited line isn't finished, and `Wrong`

@@ -5,8 +5,6 @@ mod driver;
 mod faults;
 mod judging;
 mod progress;
-#[cfg(test)]
-mod tests;
 mod verdict;
 mod walk;
 

@@ -3,8 +3,8 @@ ghost use Rattle.std.specs.Prelude.{◌≡◌, ◌==◌, ◌^◌, ◌-◌, ◌�
 ghost use Rattle.std.specs.List.{list_all, range_with_len};
 ghost use Rattle.std.specs.Option.{option_copied};
 ghost use Rattle.vi_history.specs.declared.call.Caller.TheVariants.{Driver, Back};
-ghost use Rattle.vi_script.specs.Calls.{HasTransfers, lines_of, line_of, awaits_of};
-ghost use Rattle.vi_script.specs.Order.{batch_of, place_after};
+ghost use Rattle.vi_lines.specs.Calls.{HasTransfers, lines_of, line_of, awaits_of};
+ghost use Rattle.vi_lines.specs.Order.{batch_of, place_after};
 ghost use Rattle.vi_check.specs.Due.{callers_of};
 ghost use Rattle.vi_check.specs.Seen.{FitsScript, MayEnter, nothing_seen, has_entry, next_of, has_passed, has_finished, comes_next, may_come, ends_batch_in, missing_in, first_missing_in, moved_if, next_at, with_entry};
 
@@ -13,7 +13,7 @@ use crate::driver::Entered;
 use std::alloc::{AllocError, Global};
 use std::marker::Model;
 use vi_history::{Caller, Entry};
-use vi_script::{Await, Script};
+use vi_lines::{Await, Script};
 
 /// The next call of the back end of an endpoint: a line of its own and a part, both from 1.
 #[derive(Clone, Copy, Debug, PartialEq, Eq)]

@@ -5,8 +5,8 @@ ghost use Rattle.vi_history.specs.Histories.{answer_of};
 ghost use Rattle.vi_history.specs.Kinds.{is_fault};
 ghost use Rattle.vi_history.specs.Records.{records_at};
 ghost use Rattle.vi_history.specs.Replies.{reply};
-ghost use Rattle.vi_script.specs.Order.{IsDue, IsOrderedSoFar};
-ghost use Rattle.vi_script.specs.Valid.{IsValid};
+ghost use Rattle.vi_lines.specs.Order.{IsDue, IsOrderedSoFar};
+ghost use Rattle.vi_lines.specs.Valid.{IsValid};
 ghost use Rattle.vi_check.specs.Answers.{same_answer};
 ghost use Rattle.vi_check.specs.Due.{call_at, callers_of};
 ghost use Rattle.vi_check.specs.Seen.{FitsScript, MayEnter, IsAccess, first_missing_in, walked_of, with_answer};
@@ -19,8 +19,8 @@ use std::marker::Model;
 use vi_bytes::Bytes;
 use vi_fault::FaultRecord;
 use vi_history::{Call, Caller, Entry, Mark, Shown};
+use vi_lines::Script;
 use vi_plain::Plain;
-use vi_script::Script;
 
 /// What is known behind some entries of a history: how far the callers have come, the device, and the fault records of
 /// the entries.

@@ -3,8 +3,8 @@ use Rattle.std.proofs.Common.{◌≡◌, ℕ, false, List, [], ◌∷◌, Option
 use Rattle.std.proofs.lemmas.Bool.{false≢true}
 use Rattle.vi_bytes.specs.Parts.{IsTransfer}
 use Rattle.vi_history.specs.Requests.{reading}
-use Rattle.vi_script.specs.Valid.{IsValid}
-use Rattle.vi_script.specs.Value.{ScriptValue}
+use Rattle.vi_lines.specs.Valid.{IsValid}
+use Rattle.vi_lines.specs.Value.{ScriptValue}
 use Rattle.vi_model.specs.Control.{Queued, Setting, Port, Control, driver_count, no_port, no_lanes, link_of}
 use Rattle.vi_model.specs.Drivers.{left, Chain}
 use Rattle.vi_model.specs.Lanes.{Lanes}
@@ -13,8 +13,8 @@ use Rattle.vi_model.specs.Playable.{HasFields, IsPlayable}
 use Rattle.vi_model.specs.Rooms.{is_map}
 use Rattle.vi_model.specs.Worlds.{opening, opening_control}
 use Rattle.vi_model.specs.declared.task.Task.TheVariants.{Reads}
-use Rattle.vi_model.proofs.Laws.{opening_is_sound}
-use Rattle.vi_model.proofs.Opening.{same_all}
+use Rattle.vi_sound.proofs.Laws.{opening_is_sound}
+use Rattle.vi_sound.proofs.Opening.{same_all}
 use Rattle.vi_control.specs.Asked.{transfer_at}
 use Rattle.vi_control.specs.Calls.{MayAsk}
 use Rattle.vi_control.specs.Plan.{Plan, plan_of}

@@ -12,7 +12,7 @@ use Rattle.vi_model.specs.Lanes.{Miss}
 use Rattle.vi_model.specs.Places.{id_at}
 use Rattle.vi_model.specs.Removals.{closed}
 use Rattle.vi_model.specs.Serves.{page_of, is_shut, serve_found, serve_miss, parked_link, granted_link, faulted_link, noted}
-use Rattle.vi_script.specs.Value.{ScriptValue}
+use Rattle.vi_lines.specs.Value.{ScriptValue}
 use Rattle.vi_control.specs.Serving.{fault_mark}
 use Rattle.vi_control.specs.Value.{entry_with}
 

@@ -13,9 +13,9 @@ use Rattle.vi_history.specs.declared.call.Caller.TheVariants.{Back}
 use Rattle.vi_calls.specs.Moves.{no_calls}
 use Rattle.vi_grants.specs.declared.row.Grant.{Grant}
 use Rattle.vi_grants.specs.Rows.{empty_row}
-use Rattle.vi_script.specs.Calls.{driver_call, parts_of}
-use Rattle.vi_script.specs.Valid.{IsValidSetup}
-use Rattle.vi_script.specs.Value.{ScriptValue}
+use Rattle.vi_lines.specs.Calls.{driver_call, parts_of}
+use Rattle.vi_lines.specs.Valid.{IsValidSetup}
+use Rattle.vi_lines.specs.Value.{ScriptValue}
 use Rattle.vi_model.specs.Control.{driver_count, no_port, no_lanes}
 use Rattle.vi_model.specs.Places.{ids_of, place_count}
 use Rattle.vi_model.specs.Rooms.{is_map, is_back, all_maps, all_parts, all_transfers}

@@ -19,7 +19,7 @@ use Rattle.vi_model.specs.Removals.{Removal, is_ready}
 use Rattle.vi_model.specs.Serves.{page_of, is_shut, serve_found, serve_miss, serve_ack, parked_link, noted, miss_record}
 use Rattle.vi_model.specs.Starts.{entry_of}
 use Rattle.vi_removals.specs.Value.{RemovalsValue}
-use Rattle.vi_script.specs.Value.{ScriptValue}
+use Rattle.vi_lines.specs.Value.{ScriptValue}
 use Rattle.vi_control.specs.Inner.{seen}
 use Rattle.vi_control.specs.Serving.{HasGrantRoom, HasFaultRoom}
 use Rattle.vi_control.specs.Places.{is_free_at, first_free_in, has_frame_in, first_frame_in}

@@ -10,11 +10,11 @@ use Rattle.vi_config.specs.Space.{IsGranule}
 use Rattle.vi_history.specs.declared.setup.Setup.{Setup}
 use Rattle.vi_vring.specs.Moves.{IsRingSize}
 use Rattle.vi_device.specs.Values.{AreDistinct, AreRegions, IsSetup}
-use Rattle.vi_script.specs.declared.line.Line.{Line}
-use Rattle.vi_script.specs.Judging.{is_aligned, job_runs_over}
-use Rattle.vi_script.specs.Limits.{is_memory, is_queue, is_granule, is_job}
-use Rattle.vi_script.specs.Valid.{is_region, has_endpoint, AreEndpoints, IsValidSetup, IsValid, is_line, is_caller_in, does}
-use Rattle.vi_script.specs.Value.{ScriptValue}
+use Rattle.vi_lines.specs.declared.line.Line.{Line}
+use Rattle.vi_lines.specs.Rules.{is_aligned, job_runs_over}
+use Rattle.vi_lines.specs.Limits.{is_memory, is_queue, is_granule, is_job}
+use Rattle.vi_lines.specs.Valid.{is_region, has_endpoint, AreEndpoints, IsValidSetup, IsValid, is_line, is_caller_in, does}
+use Rattle.vi_lines.specs.Value.{ScriptValue}
 
 no_other : (es : List EndpointSetup) (id : ℕ) → has_endpoint es id ≡ false → list_any (λ x. x == id) (map (λ (e : EndpointSetup). e.id) es) ≡ false
 no_other [] id none = refl

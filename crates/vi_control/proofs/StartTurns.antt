@@ -5,7 +5,7 @@ use Rattle.std.proofs.lemmas.List.{map-append}
 use Rattle.std.specs.List.{range_with_len}
 use Rattle.std.specs.Option.{option_map}
 use Rattle.vi_history.specs.declared.entry.Mark.{Mark}
-use Rattle.vi_script.specs.Value.{ScriptValue}
+use Rattle.vi_lines.specs.Value.{ScriptValue}
 use Rattle.vi_device.specs.Values.{DeviceValue}
 use Rattle.vi_grants.specs.Rows.{GrantRow, row_at}
 use Rattle.vi_model.specs.declared.task.Task.{Task}

@@ -11,7 +11,7 @@ use Rattle.vi_model.specs.Lanes.{Miss}
 use Rattle.vi_model.specs.Places.{ids_of, place_count}
 use Rattle.vi_model.specs.Removals.{Removal, is_ready}
 use Rattle.vi_removals.specs.Value.{removals_of}
-use Rattle.vi_script.specs.Value.{ScriptValue}
+use Rattle.vi_lines.specs.Value.{ScriptValue}
 use Rattle.vi_control.specs.Cascade.{work_by_ready, work_by_free, work_by_frame, work_by_queue, work_in}
 use Rattle.vi_control.specs.Inner.{seen, IsKept}
 use Rattle.vi_control.specs.Places.{is_free_at, first_free_in, first_frame_in}

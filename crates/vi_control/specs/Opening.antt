@@ -1,8 +1,8 @@
 -- What a control takes from a script's lines.
 use Rattle.std.specs.Prelude.{List, map, filter}
 use Rattle.vi_history.specs.declared.call.Caller.{Caller}
-use Rattle.vi_script.specs.declared.line.Line.{Line}
-use Rattle.vi_script.specs.Calls.{same_caller}
+use Rattle.vi_lines.specs.declared.line.Line.{Line}
+use Rattle.vi_lines.specs.Calls.{same_caller}
 use Rattle.vi_control.specs.declared.transfer.Transfer.{Transfer}
 use Rattle.vi_control.specs.Plan.{transfer_of}
 

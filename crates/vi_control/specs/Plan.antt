@@ -2,10 +2,10 @@
 use Rattle.std.specs.Prelude.{ℕ, List, length, map}
 use Rattle.std.specs.List.{range_with_len}
 use Rattle.vi_bytes.specs.declared.lease.Need.TheVariants.{Read, Write}
-use Rattle.vi_script.specs.declared.job.Job.{Job}
-use Rattle.vi_script.specs.declared.job.Job.TheVariants as job
-use Rattle.vi_script.specs.Value.{ScriptValue}
-use Rattle.vi_script.specs.Calls.{lines_of}
+use Rattle.vi_lines.specs.declared.job.Job.{Job}
+use Rattle.vi_lines.specs.declared.job.Job.TheVariants as job
+use Rattle.vi_lines.specs.Value.{ScriptValue}
+use Rattle.vi_lines.specs.Calls.{lines_of}
 use Rattle.vi_model.specs.Places.{ids_of, place_count, back_at}
 use Rattle.vi_control.specs.declared.transfer.Transfer.{Transfer}
 

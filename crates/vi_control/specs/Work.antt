@@ -1,6 +1,6 @@
 -- The device's next work: the first that applies.
 use Rattle.std.specs.Prelude.{ℕ, List, [], ◌∷◌, Option, Some, None}
-use Rattle.vi_script.specs.Value.{ScriptValue}
+use Rattle.vi_lines.specs.Value.{ScriptValue}
 use Rattle.vi_model.specs.Removals.{Removal, first_ready}
 use Rattle.vi_model.specs.Control.{Queued, Control}
 use Rattle.vi_model.specs.Device.{first_setting, first_frame, first_free}

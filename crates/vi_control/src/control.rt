@@ -1,6 +1,6 @@
 //! The control.
 ghost use Rattle.std.specs.Prelude.{◌≡◌, [], IfOk};
-ghost use Rattle.vi_script.specs.Valid.{IsValid};
+ghost use Rattle.vi_lines.specs.Valid.{IsValid};
 ghost use Rattle.vi_model.specs.Worlds.{opening_control};
 ghost use Rattle.vi_control.specs.Plan.{plan_of};
 
@@ -14,8 +14,8 @@ use vi_device::Device;
 use vi_events::EventQueue;
 use vi_grants::Grants;
 use vi_lanes::Lanes;
+use vi_lines::Script;
 use vi_removals::Removals;
-use vi_script::Script;
 
 /// What is shared of a script's run: the device, what its drivers asked and its back ends await. All room is taken when
 /// it is built, and no other call takes memory.

@@ -1,12 +1,12 @@
 //! For how much a script needs room.
 ghost use Rattle.std.specs.Prelude.{◌≡◌, ◌≤◌, length, count_by, sum_by, All, IsTrue};
-ghost use Rattle.vi_script.specs.Calls.{TransfersWell, parts_of, driver_call};
-ghost use Rattle.vi_script.specs.Limits.{is_job};
+ghost use Rattle.vi_lines.specs.Calls.{TransfersWell, parts_of, driver_call};
+ghost use Rattle.vi_lines.specs.Limits.{is_job};
 ghost use Rattle.vi_model.specs.Rooms.{is_map_reading, is_map, is_back};
 ghost use Rattle.vi_model.specs.Tasks.{task_in};
 
 use vi_history::{Caller, Reading, Request};
-use vi_script::{Job, Line};
+use vi_lines::{Job, Line};
 
 fn is_map(reading: &Reading) -> bool
     ensures { result ≡ is_map_reading reading.now }

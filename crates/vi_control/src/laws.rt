@@ -1,5 +1,5 @@
 //! What is so of the control of every sound world, as the contract of a function that does nothing.
-ghost use Rattle.vi_script.specs.Value.{ScriptValue};
+ghost use Rattle.vi_lines.specs.Value.{ScriptValue};
 ghost use Rattle.vi_model.specs.Places.{place_count};
 ghost use Rattle.vi_model.specs.Playable.{IsPlayable};
 ghost use Rattle.vi_model.specs.Sound.{IsSound};

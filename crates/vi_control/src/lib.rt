@@ -28,6 +28,3 @@ pub use control::Control;
 pub use transfer::Transfer;
 pub use vi_calls::Collected;
 pub use work::Work;
-
-#[cfg(test)]
-mod tests;

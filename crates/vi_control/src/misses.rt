@@ -7,7 +7,7 @@ ghost use Rattle.vi_model.specs.Control.{link_of};
 ghost use Rattle.vi_model.specs.Removals.{closed};
 ghost use Rattle.vi_model.specs.Serves.{page_of, serve_miss};
 ghost use Rattle.vi_model.specs.Whole.{IsWholeDev};
-ghost use Rattle.vi_script.specs.Value.{ScriptValue};
+ghost use Rattle.vi_lines.specs.Value.{ScriptValue};
 ghost use Rattle.vi_control.specs.Plan.{plan_of};
 ghost use Rattle.vi_control.specs.Serving.{planned_id, granted_for, faulted_for, fault_mark, HasGrantRoom, HasFaultRoom, HasNoMiss};
 ghost use Rattle.vi_control.specs.Value.{with_state, made_by};

@@ -2,7 +2,7 @@
 ghost use Rattle.std.specs.Prelude.{◌≡◌, IsTrue, ◌≤◌, None, length};
 ghost use Rattle.std.specs.List.{list_any};
 ghost use Rattle.vi_model.specs.Removals.{is_ready};
-ghost use Rattle.vi_script.specs.Value.{ScriptValue};
+ghost use Rattle.vi_lines.specs.Value.{ScriptValue};
 ghost use Rattle.vi_model.specs.Device.{device_turn};
 ghost use Rattle.vi_control.specs.declared.work.Work.TheVariants.{Finish, Idle};
 ghost use Rattle.vi_control.specs.Plan.{plan_of};

@@ -3,7 +3,7 @@ ghost use Rattle.std.specs.Prelude.{◌≡◌, map, replicate, All, IsTrue, IfOk
 ghost use Rattle.vi_config.specs.Space.{IsGranule, config_bytes};
 ghost use Rattle.vi_history.specs.Start.{start_dev};
 ghost use Rattle.vi_history.specs.declared.call.Caller.TheVariants.{Back};
-ghost use Rattle.vi_script.specs.Limits.{is_job};
+ghost use Rattle.vi_lines.specs.Limits.{is_job};
 ghost use Rattle.vi_control.specs.Plan.{transfer_of};
 ghost use Rattle.vi_control.specs.Inner.{config_of};
 ghost use Rattle.vi_control.specs.Opening.{transfers_in};
@@ -13,7 +13,7 @@ use std::alloc::{AllocError, Global};
 use vi_bytes::{EndpointSetup, Need};
 use vi_config::Config;
 use vi_history::{Caller, Setup};
-use vi_script::{Job, Line};
+use vi_lines::{Job, Line};
 
 /// The endpoints' ids in declared order. An error is want of memory.
 pub(crate) fn ids_in(alloc: Global, endpoints: &[EndpointSetup]) -> Result<Vec<u32>, AllocError>

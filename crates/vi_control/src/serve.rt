@@ -1,6 +1,6 @@
 //! The device serves what back ends send.
 ghost use Rattle.std.specs.Prelude.{◌≡◌, ◌<◌, [], Some, length, is_some, IsTrue};
-ghost use Rattle.vi_script.specs.Value.{ScriptValue};
+ghost use Rattle.vi_lines.specs.Value.{ScriptValue};
 ghost use Rattle.vi_model.specs.Control.{link_of};
 ghost use Rattle.vi_model.specs.Device.{serve_parked, serve_up};
 ghost use Rattle.vi_control.specs.Plan.{plan_of};

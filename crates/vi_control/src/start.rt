@@ -2,7 +2,7 @@
 ghost use Rattle.std.specs.Prelude.{◌≡◌, ℕ, ◌<◌, ◌≤◌, ◌++◌, [], ◌∷◌, true, false, not, length, take, drop, Some, IsTrue, IfSome, IfNone};
 ghost use Rattle.std.specs.List.{list_any, list_all};
 ghost use Rattle.std.specs.Option.{option_map};
-ghost use Rattle.vi_script.specs.Value.{ScriptValue};
+ghost use Rattle.vi_lines.specs.Value.{ScriptValue};
 ghost use Rattle.vi_model.specs.Removals.{is_ready, first_ready, without_first};
 ghost use Rattle.vi_model.specs.Starts.{tell};
 ghost use Rattle.vi_lanes.specs.Value.{lanes_at};

@@ -5,8 +5,8 @@ use Rattle.vi_history.specs.declared.call.Caller.{Caller}
 use Rattle.vi_history.specs.declared.call.Caller.TheVariants.{Driver, Back}
 use Rattle.vi_iotlb.specs.declared.frame.Frame.{Frame}
 use Rattle.vi_iotlb.specs.declared.frame.Frame.TheVariants as frame
-use Rattle.vi_script.specs.declared.line.Await.{Await}
-use Rattle.vi_script.specs.Value.{ScriptValue}
+use Rattle.vi_lines.specs.declared.line.Await.{Await}
+use Rattle.vi_lines.specs.Value.{ScriptValue}
 use Rattle.vi_lanes.specs.Frames.{next_frame, next_in, down_frame}
 use Rattle.vi_model.specs.Lanes.{Down, Update, Invalidate, Miss}
 use Rattle.vi_model.specs.Control.{Link, Control, link_of, lanes_of, with_link}

@@ -12,10 +12,10 @@ use Rattle.vi_bytes.specs.declared.lease.Need.TheVariants as need
 use Rattle.vi_bytes.specs.declared.part.Part.{Part}
 use Rattle.vi_history.specs.Translation.{permits}
 use Rattle.vi_history.specs.declared.call.Caller.TheVariants.{Back}
-use Rattle.vi_script.specs.declared.job.Job.{Job}
-use Rattle.vi_script.specs.declared.job.Job.TheVariants as job
-use Rattle.vi_script.specs.declared.line.Line.{Line}
-use Rattle.vi_script.specs.Calls.{TransfersWell, parts_of, back_call, call_in}
+use Rattle.vi_lines.specs.declared.job.Job.{Job}
+use Rattle.vi_lines.specs.declared.job.Job.TheVariants as job
+use Rattle.vi_lines.specs.declared.line.Line.{Line}
+use Rattle.vi_lines.specs.Calls.{TransfersWell, parts_of, back_call, call_in}
 use Rattle.vi_model.specs.Lanes.{Miss}
 use Rattle.vi_model.specs.Serves.{page_of}
 use Rattle.vi_model.specs.Caches.{cached_at}

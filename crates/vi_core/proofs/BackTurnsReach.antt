@@ -1,8 +1,8 @@
 -- A back end's access is that of its turn.
 use Rattle.std.proofs.Common.{◌≡◌, ℕ, List, take, drop, Some, refl, ◌∙◌, ap, sym, subst}
 use Rattle.vi_bytes.specs.declared.lease.Lease.{Lease}
-use Rattle.vi_script.specs.declared.line.Who.TheVariants as who
-use Rattle.vi_script.specs.Value.{ScriptValue}
+use Rattle.vi_lines.specs.declared.line.Who.TheVariants as who
+use Rattle.vi_lines.specs.Value.{ScriptValue}
 use Rattle.vi_model.specs.Places.{place_of}
 use Rattle.vi_model.specs.Backs.{Access, Accesses, wish}
 use Rattle.vi_model.specs.Backs as model

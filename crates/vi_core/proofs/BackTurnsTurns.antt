@@ -1,7 +1,7 @@
 -- A back end's turn under control, of its exchange.
 use Rattle.std.proofs.Common.{◌≡◌, ◌≤◌, ◌||◌, nat_lt, ℕ, Bool, true, false, List, [], ◌∷◌, refl, arith, ◌∙◌, ap, sym, subst}
 use Rattle.std.proofs.lemmas.Bool.Decides.{nat_tests}
-use Rattle.vi_script.specs.Value.{ScriptValue}
+use Rattle.vi_lines.specs.Value.{ScriptValue}
 use Rattle.vi_bytes.specs.declared.lease.Lease.{Lease}
 use Rattle.vi_iotlb.specs.declared.frame.Frame.{Frame}
 use Rattle.vi_model.specs.Lanes.{Down, Update, Invalidate}

@@ -1,8 +1,8 @@
 -- In a sound world a back end's turn under control finds its room.
 use Rattle.std.proofs.Common.{◌≡◌, ℕ, suc, ◌+◌, ◌≤◌, ◌<◌, Bool, true, false, List, [], ◌∷◌, length, map, All, slice_get, refl, ◌∙◌, ap, sym, subst, arith}
 use Rattle.std.proofs.lemmas.List.FromFn.{get_or-map-range_with_len}
-use Rattle.vi_script.specs.Value.{ScriptValue}
-use Rattle.vi_script.specs.Calls.{awaits_in, awaits_of}
+use Rattle.vi_lines.specs.Value.{ScriptValue}
+use Rattle.vi_lines.specs.Calls.{awaits_in, awaits_of}
 use Rattle.vi_model.specs.Asking.{one_if}
 use Rattle.vi_model.specs.Backs.{Seat, Asks, wish}
 use Rattle.vi_model.specs.Control.{link_of}
@@ -11,8 +11,8 @@ use Rattle.vi_model.specs.Places.{ids_of, place_in, place_count, back_at}
 use Rattle.vi_model.specs.Playable.{IsPlayable}
 use Rattle.vi_model.specs.Sound.{IsSound, SoundParts}
 use Rattle.vi_model.specs.Worlds.{World, seat_of}
-use Rattle.vi_model.proofs.Ids.{place_of_id}
-use Rattle.vi_model.proofs.Room.{asks_fit, acks_fit}
+use Rattle.vi_sound.proofs.Ids.{place_of_id}
+use Rattle.vi_sound.proofs.Room.{asks_fit, acks_fit}
 use Rattle.vi_backend.specs.Own.{Own, IsOwn, IsBackOf}
 use Rattle.vi_backend.specs.Wishes.{own_wish, own_awaits}
 use Rattle.vi_backend.proofs.Agreeing.{wishes_agree}

@@ -12,17 +12,17 @@ use Rattle.vi_history.specs.declared.call.Caller.TheVariants.{Driver, Back}
 use Rattle.vi_history.specs.declared.entry.Entry.{Entry}
 use Rattle.vi_history.specs.declared.request.Request.{Request}
 use Rattle.vi_history.specs.declared.request.Request.TheVariants.{Attach, Detach, Map, Unmap, Probe}
-use Rattle.vi_script.specs.declared.job.Job.{Job}
-use Rattle.vi_script.specs.declared.job.Job.TheVariants as job
-use Rattle.vi_script.specs.declared.line.Await.{Await}
-use Rattle.vi_script.specs.declared.line.Line.{Line}
-use Rattle.vi_script.specs.Value.{ScriptValue}
-use Rattle.vi_script.specs.Calls.{same_caller, line_of, awaits_in, awaits_of}
-use Rattle.vi_script.specs.Judging.{count_lines, awaits_well, job_runs_over}
-use Rattle.vi_script.specs.Limits.{is_job, is_raw, longest_batch}
-use Rattle.vi_script.specs.Order.{batch_of}
-use Rattle.vi_script.specs.Valid.{IsValid, AwaitAbove, has_endpoint, is_caller_in, is_line, does, driver_does}
-use Rattle.vi_script.proofs.IndexLemmas.{same_caller-eq}
+use Rattle.vi_lines.specs.declared.job.Job.{Job}
+use Rattle.vi_lines.specs.declared.job.Job.TheVariants as job
+use Rattle.vi_lines.specs.declared.line.Await.{Await}
+use Rattle.vi_lines.specs.declared.line.Line.{Line}
+use Rattle.vi_lines.specs.Value.{ScriptValue}
+use Rattle.vi_lines.specs.Calls.{same_caller, line_of, awaits_in, awaits_of}
+use Rattle.vi_lines.specs.Rules.{count_lines, awaits_well, job_runs_over}
+use Rattle.vi_lines.specs.Limits.{is_job, is_raw, longest_batch}
+use Rattle.vi_lines.specs.Order.{batch_of}
+use Rattle.vi_lines.specs.Valid.{IsValid, AwaitAbove, has_endpoint, is_caller_in, is_line, does, driver_does}
+use Rattle.vi_lines.proofs.IndexLemmas.{same_caller-eq}
 use Rattle.vi_model.specs.Asking.{one_if}
 use Rattle.vi_model.specs.Control.{Answered, driver_count, port_of}
 use Rattle.vi_model.specs.Drivers.{Stand, is_one_batch, lower, first_answer, parcel_of}
@@ -31,12 +31,12 @@ use Rattle.vi_model.specs.Places.{ids_of}
 use Rattle.vi_model.specs.Playable.{IsPlayable}
 use Rattle.vi_model.specs.Sound.{IsSound, SoundParts}
 use Rattle.vi_model.specs.Worlds.{World, stand_of}
-use Rattle.vi_model.proofs.Batches.{batch_all}
-use Rattle.vi_model.proofs.Bounds.{no_line, one_batch, open_sum, zero_or, drivers_sum}
-use Rattle.vi_model.proofs.Drives.{line_below}
-use Rattle.vi_model.proofs.Parcels.{all_from_test, line_all, driver_does_it}
-use Rattle.vi_model.proofs.Room.{answers_once, submits_fit}
-use Rattle.vi_model.proofs.Sums.{sum_to, sum_window}
+use Rattle.vi_sound.proofs.Batches.{batch_all}
+use Rattle.vi_sound.proofs.Bounds.{no_line, one_batch, open_sum, zero_or, drivers_sum}
+use Rattle.vi_sound.proofs.Drives.{line_below}
+use Rattle.vi_sound.proofs.Parcels.{all_from_test, line_all, driver_does_it}
+use Rattle.vi_sound.proofs.Room.{answers_once, submits_fit}
+use Rattle.vi_sound.proofs.Sums.{sum_to, sum_window}
 use Rattle.vi_driver.specs.Drivers.{own_driver, continues_batch, next_line}
 use Rattle.vi_driver.proofs.Batches.{one_batch-own, line_of-own}
 use Rattle.vi_removals.specs.Takings.{has_id}

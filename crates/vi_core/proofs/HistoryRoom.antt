@@ -29,15 +29,15 @@ use Rattle.vi_history.specs.declared.call.Call.TheVariants as call
 use Rattle.vi_history.specs.declared.call.Caller.{Caller}
 use Rattle.vi_history.specs.declared.call.Caller.TheVariants.{Driver, Back}
 use Rattle.vi_history.specs.declared.entry.Entry.{Entry}
-use Rattle.vi_script.specs.declared.job.Job.{Job}
-use Rattle.vi_script.specs.declared.job.Job.TheVariants as job
-use Rattle.vi_script.specs.declared.line.Line.{Line}
-use Rattle.vi_script.specs.Value.{ScriptValue}
-use Rattle.vi_script.specs.Valid.{IsValid, is_line, is_caller_in}
-use Rattle.vi_script.specs.Calls.{same_caller, lines_of, line_of, parts_of, driver_call, back_call, call_in, call_of}
-use Rattle.vi_script.specs.Order.{ends_block, entries_at, Place, place_after, due_place, IsNext, IsDue, AreDue}
-use Rattle.vi_script.specs.Legal.{AreCalls}
-use Rattle.vi_script.proofs.IndexLemmas.{same_caller-eq, same_caller-self}
+use Rattle.vi_lines.specs.declared.job.Job.{Job}
+use Rattle.vi_lines.specs.declared.job.Job.TheVariants as job
+use Rattle.vi_lines.specs.declared.line.Line.{Line}
+use Rattle.vi_lines.specs.Value.{ScriptValue}
+use Rattle.vi_lines.specs.Valid.{IsValid, is_line, is_caller_in}
+use Rattle.vi_lines.specs.Calls.{same_caller, lines_of, line_of, parts_of, driver_call, back_call, call_in, call_of}
+use Rattle.vi_lines.specs.Order.{ends_block, entries_at, Place, place_after, due_place, IsNext, IsDue, AreDue}
+use Rattle.vi_lines.specs.Legal.{AreCalls}
+use Rattle.vi_lines.proofs.IndexLemmas.{same_caller-eq, same_caller-self}
 use Rattle.vi_model.specs.Control.{driver_count}
 use Rattle.vi_model.specs.Places.{place_count, id_at, back_at}
 use Rattle.vi_model.specs.Asking.{one_if}
@@ -46,15 +46,15 @@ use Rattle.vi_model.specs.Rooms.{is_back}
 use Rattle.vi_model.specs.Rounds.{calls_in, calls_of}
 use Rattle.vi_model.specs.Worlds.{World}
 use Rattle.vi_model.specs.Sound.{SoundParts, IsSound}
-use Rattle.vi_model.proofs.Parcels.{line_caller}
+use Rattle.vi_sound.proofs.Parcels.{line_caller}
 use Rattle.vi_core.proofs.KnownCalls.{call_line, driver_part, back_part}
 use Rattle.vi_core.specs.HistoryRoom.{request_answer_bytes, answer_bytes, bytes_of, HistoryHasRoom}
-use Rattle.vi_model.proofs.Sums.{sum_to, sum_le}
-use Rattle.vi_model.proofs.Totals.{total_le, total_one, total_rise}
-use Rattle.vi_model.proofs.Known.{known_back, known_driver, known_line, place_there}
-use Rattle.vi_model.proofs.Ids.{back_other}
-use Rattle.vi_model.proofs.Falls.{line_get}
-use Rattle.vi_model.proofs.Histories.{due_own, due_other, entered_more}
+use Rattle.vi_sound.proofs.Sums.{sum_to, sum_le}
+use Rattle.vi_sound.proofs.Totals.{total_le, total_one, total_rise}
+use Rattle.vi_sound.proofs.Known.{known_back, known_driver, known_line, place_there}
+use Rattle.vi_sound.proofs.Ids.{back_other}
+use Rattle.vi_sound.proofs.Falls.{line_get}
+use Rattle.vi_sound.proofs.Histories.{due_own, due_other, entered_more}
 
 -- ---- weights: of a call by its caller, line and part, and of a line
 

@@ -11,7 +11,6 @@ pub mod MovingBacks
 pub mod Needs
 pub mod DriveRoom
 pub mod ConverseRoom
-pub mod PageRoom
 pub mod Keeping
 pub mod Faulting
 pub mod KnownCalls

@@ -10,10 +10,10 @@ use Rattle.vi_history.specs.declared.call.Caller.TheVariants.{Driver}
 use Rattle.vi_history.specs.declared.entry.Entry.{Entry}
 use Rattle.vi_history.specs.declared.entry.Mark.{Mark}
 use Rattle.vi_history.specs.declared.outcome.Shown.{Shown}
-use Rattle.vi_script.specs.declared.line.Who.{Who}
-use Rattle.vi_script.specs.declared.line.Who.TheVariants as who
-use Rattle.vi_script.specs.Value.{ScriptValue}
-use Rattle.vi_script.specs.Calls.{lines_of}
+use Rattle.vi_lines.specs.declared.line.Who.{Who}
+use Rattle.vi_lines.specs.declared.line.Who.TheVariants as who
+use Rattle.vi_lines.specs.Value.{ScriptValue}
+use Rattle.vi_lines.specs.Calls.{lines_of}
 use Rattle.vi_model.specs.Control.{Control, driver_count}
 use Rattle.vi_model.specs.Places.{place_count}
 use Rattle.vi_model.specs.Device.{device_turn}
@@ -24,8 +24,8 @@ use Rattle.vi_model.specs.Turns as model
 use Rattle.vi_model.specs.Turns.{ControlTurn, Turn, driver_idle, driven, served, control_turn, accessed_page, event_read, made_entries, left_by, under_control, turn}
 use Rattle.vi_model.specs.Rounds.{calls_of}
 use Rattle.vi_model.specs.Sound.{IsSound}
-use Rattle.vi_model.proofs.Laws.{turns_keep_sound}
-use Rattle.vi_model.proofs.Turns.{left_stays}
+use Rattle.vi_sound.proofs.Laws.{turns_keep_sound}
+use Rattle.vi_sound.proofs.Turns.{left_stays}
 use Rattle.vi_driver.specs.Drivers.{OwnDriver, own_driver}
 use Rattle.vi_backend.specs.Own.{Own}
 use Rattle.vi_control.specs.Value.{ControlValue, entry_with}

@@ -8,8 +8,8 @@ use Rattle.std.proofs.Math.ListN.{get_or-map}
 use Rattle.std.proofs.lemmas.List.Quantifiers.{position-Some}
 use Rattle.vi_bytes.specs.declared.lease.Lease.{Lease}
 use Rattle.vi_history.specs.declared.entry.Entry.{Entry}
-use Rattle.vi_script.specs.declared.line.Who.TheVariants as who
-use Rattle.vi_script.specs.Value.{ScriptValue}
+use Rattle.vi_lines.specs.declared.line.Who.TheVariants as who
+use Rattle.vi_lines.specs.Value.{ScriptValue}
 use Rattle.vi_model.specs.Control.{Control, with_link}
 use Rattle.vi_model.specs.Places.{ids_of, place_count, place_in, place_of}
 use Rattle.vi_model.specs.Backs.{Seat, Exchange, Access, Wish, Accesses, Asks, Receives, Rests, wish, target_of}
@@ -17,7 +17,7 @@ use Rattle.vi_model.specs.Actors.{Actor, seat_in, back_actor}
 use Rattle.vi_model.specs.Worlds.{World, seat_of, actor_of}
 use Rattle.vi_model.specs.Turns as model
 use Rattle.vi_model.specs.Turns.{ControlTurn, AccessTurn, Turn, exchanged, wished, wished_page, control_turn, accessed_page, access_turn, made_entries, left_by, left_by_access, under_control, turn_at, turn}
-use Rattle.vi_model.proofs.Owns.{places_have_ids}
+use Rattle.vi_sound.proofs.Owns.{places_have_ids}
 use Rattle.vi_backend.specs.declared.wish.Done.{Done}
 use Rattle.vi_backend.specs.Own.{Own, IsOwn, IsBackOf}
 use Rattle.vi_backend.specs.Wishes.{own_wish}

@@ -3,7 +3,7 @@ use Rattle.std.proofs.Common.{◌≡◌, ◌<◌, ◌≤◌, ℕ, List, length, 
 use Rattle.std.proofs.lemmas.List.{get_or_default, length-map}
 use Rattle.std.proofs.Math.ListN.{get_or-map}
 use Rattle.vi_bytes.specs.declared.region.EndpointSetup.{EndpointSetup}
-use Rattle.vi_script.specs.Value.{ScriptValue}
+use Rattle.vi_lines.specs.Value.{ScriptValue}
 use Rattle.vi_model.specs.Control.{driver_count}
 use Rattle.vi_model.specs.Places.{place_count}
 use Rattle.vi_model.specs.Backs.{Wish, Accesses, Asks, Receives, Rests, wish}
@@ -16,7 +16,7 @@ use Rattle.vi_control.specs.Plan.{Plan, plan_of}
 use Rattle.vi_control.specs.Value.{ControlValue}
 use Rattle.vi_control.specs.Rooms.{HasTurnRoom, HasRoom}
 use Rattle.vi_control.proofs.Sound.{sound_room}
-use Rattle.vi_script.specs.declared.line.Who.TheVariants as who
+use Rattle.vi_lines.specs.declared.line.Who.TheVariants as who
 use Rattle.vi_core.specs.declared.turned.Turned.{Turned}
 use Rattle.vi_core.specs.Moves.{HasMoved}
 use Rattle.vi_core.specs.DriverTurns.{HasDriveRoom, IsDriversTurn}
@@ -24,7 +24,7 @@ use Rattle.vi_core.specs.BackTurns.{HasConverseRoom}
 use Rattle.vi_core.specs.Parts.{Parts, world_of, no_driver, no_back, IsDriverOf, IsBackAt, IsKept}
 use Rattle.vi_core.proofs.DriveRoom.{drive_room}
 use Rattle.vi_core.proofs.ConverseRoom.{converse_room}
-use Rattle.vi_core.proofs.PageRoom.{page_room}
+use Rattle.vi_sound.proofs.PageRoom.{page_room}
 use Rattle.vi_core.proofs.Moving.{many_drivers, many_backs, driver_moves}
 use Rattle.vi_core.proofs.MovingBacks.{seat_is, page_wished}
 

@@ -10,8 +10,8 @@ use Rattle.std.proofs.Math.Seq.{get_or-append_seam}
 use Rattle.std.proofs.lemmas.List.FromFn.{get_or-map-range_with_len}
 use Rattle.vi_history.specs.Start.{start, zero_page}
 use Rattle.vi_history.specs.declared.entry.Entry.{Entry}
-use Rattle.vi_script.specs.declared.line.Line.{Line}
-use Rattle.vi_script.specs.Value.{ScriptValue}
+use Rattle.vi_lines.specs.declared.line.Line.{Line}
+use Rattle.vi_lines.specs.Value.{ScriptValue}
 use Rattle.vi_model.specs.Control.{driver_count}
 use Rattle.vi_model.specs.Places.{place_count}
 use Rattle.vi_model.specs.Drivers.{no_stand}
@@ -20,7 +20,7 @@ use Rattle.vi_model.specs.Worlds.{World, opening, opening_control}
 use Rattle.vi_model.specs.Rounds.{calls_in, calls_of}
 use Rattle.vi_model.specs.Playable.{IsPlayable}
 use Rattle.vi_model.specs.Sound.{IsSound}
-use Rattle.vi_model.proofs.Laws.{opening_is_sound}
+use Rattle.vi_sound.proofs.Laws.{opening_is_sound}
 use Rattle.vi_driver.specs.Drivers.{OwnDriver, own_driver}
 use Rattle.vi_backend.specs.Own.{Own}
 use Rattle.vi_control.specs.Plan.{plan_of}

@@ -36,16 +36,16 @@ use Rattle.vi_history.specs.declared.call.Caller.{Caller}
 use Rattle.vi_history.specs.declared.call.Caller.TheVariants.{Driver, Back}
 use Rattle.vi_history.specs.declared.entry.Entry.{Entry}
 use Rattle.vi_history.specs.declared.outcome.Shown.{Shown}
-use Rattle.vi_script.specs.declared.job.Job.{Job}
-use Rattle.vi_script.specs.declared.job.Job.TheVariants as job
-use Rattle.vi_script.specs.declared.line.Line.{Line}
-use Rattle.vi_script.specs.Value.{ScriptValue}
-use Rattle.vi_script.specs.Valid.{IsValid, is_line, is_caller_in, does}
-use Rattle.vi_script.specs.Judging.{job_runs_over}
-use Rattle.vi_script.specs.Limits.{is_job}
-use Rattle.vi_script.specs.Calls.{line_of, parts_of, part_bytes, driver_call, back_call, call_in, call_of}
-use Rattle.vi_script.specs.Legal.{AreCalls}
-use Rattle.vi_script.specs.Order.{AreDue}
+use Rattle.vi_lines.specs.declared.job.Job.{Job}
+use Rattle.vi_lines.specs.declared.job.Job.TheVariants as job
+use Rattle.vi_lines.specs.declared.line.Line.{Line}
+use Rattle.vi_lines.specs.Value.{ScriptValue}
+use Rattle.vi_lines.specs.Valid.{IsValid, is_line, is_caller_in, does}
+use Rattle.vi_lines.specs.Rules.{job_runs_over}
+use Rattle.vi_lines.specs.Limits.{is_job}
+use Rattle.vi_lines.specs.Calls.{line_of, parts_of, part_bytes, driver_call, back_call, call_in, call_of}
+use Rattle.vi_lines.specs.Legal.{AreCalls}
+use Rattle.vi_lines.specs.Order.{AreDue}
 use Rattle.vi_model.specs.Rooms.{is_back}
 use Rattle.vi_model.specs.Rounds.{calls_in, calls_of}
 use Rattle.vi_model.specs.Shown.{AreNumbered}
@@ -55,11 +55,11 @@ use Rattle.vi_model.specs.Whole.{IsWholeDev}
 use Rattle.vi_model.specs.Playable.{IsPlayable}
 use Rattle.vi_model.specs.Worlds.{World, opening}
 use Rattle.vi_model.specs.declared.task.Task.TheVariants.{Reads, Sets}
-use Rattle.vi_model.proofs.Aligned.{leased, found_leased}
-use Rattle.vi_model.proofs.Delivered.{records_are_shown_well}
-use Rattle.vi_model.proofs.Known.{known_line, known_driver, known_part, line_is}
-use Rattle.vi_model.proofs.Opening.{opening_sound}
-use Rattle.vi_model.proofs.Wholes.{commit_whole}
+use Rattle.vi_sound.proofs.Aligned.{leased, found_leased}
+use Rattle.vi_sound.proofs.Delivered.{records_are_shown_well}
+use Rattle.vi_sound.proofs.Known.{known_line, known_driver, known_part, line_is}
+use Rattle.vi_sound.proofs.Opening.{opening_sound}
+use Rattle.vi_sound.proofs.Wholes.{commit_whole}
 use Rattle.vi_core.specs.Outcomes.{fault_numbers, named_by, outcome_of, OutcomeIsMade, OutcomeHasRecords}
 use Rattle.vi_core.proofs.KnownCalls.{call_line, driver_part, back_part}
 use Rattle.vi_core.proofs.HistoryRoom.{entries_few, properties_length}

@@ -2,7 +2,7 @@
 use Rattle.std.proofs.Common.{◌≡◌, ◌<◌, ◌≤◌, ℕ, List, [], length, get_or, set, take, drop, Option, Some, None, ap, subst, sym, ◌∙◌}
 use Rattle.std.specs.Prelude.{nat_eq}
 use Rattle.std.specs.List.{position}
-use Rattle.vi_script.specs.declared.line.Who.TheVariants as who
+use Rattle.vi_lines.specs.declared.line.Who.TheVariants as who
 use Rattle.vi_model.specs.Places.{place_count}
 use Rattle.vi_model.specs.Turns.{wished_page}
 use Rattle.vi_backend.specs.declared.wish.Done.{Done}

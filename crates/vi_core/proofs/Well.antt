@@ -1,14 +1,14 @@
 -- What is so of every world.
 use Rattle.std.proofs.Common.{◌≡◌, cond, ap, true, None}
-use Rattle.vi_script.specs.Ordered.{IsOrdered}
+use Rattle.vi_lines.specs.Ordered.{IsOrdered}
 use Rattle.vi_model.specs.Control.{Control, Made}
 use Rattle.vi_model.specs.Starts.{awaited_by, start, answered, begun, removal_of}
 use Rattle.vi_model.specs.Rounds.{is_finished}
 use Rattle.vi_model.specs.Worlds.{World}
-use Rattle.vi_model.proofs.Laws.{sound_is_legal}
-use Rattle.vi_model.proofs.Ended.{finished_is_ordered}
-use Rattle.vi_model.proofs.Tested.{finished_has_finished}
-use Rattle.vi_model.proofs.Taken.{finished_is_taken, started_is_taken}
+use Rattle.vi_sound.proofs.Laws.{sound_is_legal}
+use Rattle.vi_sound.proofs.Ended.{finished_is_ordered}
+use Rattle.vi_sound.proofs.Tested.{finished_has_finished}
+use Rattle.vi_sound.proofs.Taken.{finished_is_taken, started_is_taken}
 use Rattle.vi_core.specs.Parts.{Parts, world_of, running, IsKept}
 use Rattle.vi_core.specs.Well.{IsWell, IsAnsweredAtOnce}
 

@@ -4,8 +4,8 @@ use Rattle.std.specs.List.{list_all}
 use Rattle.vi_bytes.specs.declared.span.Span.{Span}
 use Rattle.vi_history.specs.declared.call.Caller.TheVariants.{Back}
 use Rattle.vi_iotlb.specs.declared.frame.Frame.{Frame}
-use Rattle.vi_script.specs.declared.line.Who.TheVariants as who
-use Rattle.vi_script.specs.Value.{ScriptValue}
+use Rattle.vi_lines.specs.declared.line.Who.TheVariants as who
+use Rattle.vi_lines.specs.Value.{ScriptValue}
 use Rattle.vi_model.specs.Lanes.{Down, Invalidate, Miss}
 use Rattle.vi_model.specs.Control.{Link, Control, link_of, with_link}
 use Rattle.vi_model.specs.Places.{place_in, place_of}

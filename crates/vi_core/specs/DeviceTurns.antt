@@ -1,7 +1,7 @@
 -- The device's turn and the event reader's over the control.
 use Rattle.std.specs.Prelude.{◌≡◌, Bool, if◌then◌else◌}
 use Rattle.std.specs.Option.{option_map}
-use Rattle.vi_script.specs.Value.{ScriptValue}
+use Rattle.vi_lines.specs.Value.{ScriptValue}
 use Rattle.vi_model.specs.Control.{Control}
 use Rattle.vi_model.specs.Device.{device_turn}
 use Rattle.vi_model.specs.Actors.{other_actor}

@@ -1,9 +1,9 @@
 -- A driver's turn over its own lines and the control.
 use Rattle.std.specs.Prelude.{◌≡◌, ◌==◌, ◌≤◌, ◌<◌, ◌+◌, ℕ, Bool, true, false, length, Option, Some, None, All}
 use Rattle.std.specs.List.{list_any}
-use Rattle.vi_script.specs.declared.line.Line.{Line}
-use Rattle.vi_script.specs.Value.{ScriptValue}
-use Rattle.vi_script.specs.Calls.{awaits_in}
+use Rattle.vi_lines.specs.declared.line.Line.{Line}
+use Rattle.vi_lines.specs.Value.{ScriptValue}
+use Rattle.vi_lines.specs.Calls.{awaits_in}
 use Rattle.vi_model.specs.Bounds.{HasSubmitRoom}
 use Rattle.vi_model.specs.Control.{Answered, Port, Control, driver_count, port_of}
 use Rattle.vi_model.specs.Drivers.{Stand, Parcel, Chain, Switch, first_answer, driver_turn, collect, left, submit}

@@ -1,7 +1,7 @@
 -- What is known of every sound world's turns: an actor's turn finds the room that it needs.
 use Rattle.std.specs.Prelude.{◌≡◌, ◌<◌, ℕ, length}
 use Rattle.vi_bytes.specs.declared.lease.Lease.{Lease}
-use Rattle.vi_script.specs.Value.{ScriptValue}
+use Rattle.vi_lines.specs.Value.{ScriptValue}
 use Rattle.vi_model.specs.Backs.{Access, Accesses, wish, target_of}
 use Rattle.vi_model.specs.Control.{driver_count}
 use Rattle.vi_model.specs.Places.{place_count}

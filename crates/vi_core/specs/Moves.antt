@@ -1,6 +1,6 @@
 -- What a turn leaves.
 use Rattle.std.specs.Prelude.{◌≡◌}
-use Rattle.vi_script.specs.declared.line.Who.{Who}
+use Rattle.vi_lines.specs.declared.line.Who.{Who}
 use Rattle.vi_model.specs.Turns.{turn}
 use Rattle.vi_core.specs.declared.turned.Turned.{Turned}
 use Rattle.vi_core.specs.Turning.{turned_of}

@@ -1,6 +1,6 @@
 -- The back ends before their first turns.
 use Rattle.std.specs.Prelude.{◌≡◌, ◌<◌, ℕ, List, length, get_or}
-use Rattle.vi_script.specs.Value.{ScriptValue}
+use Rattle.vi_lines.specs.Value.{ScriptValue}
 use Rattle.vi_model.specs.Backs.{no_seat}
 use Rattle.vi_backend.specs.Own.{Own, IsOwn, IsBackOf}
 use Rattle.vi_core.specs.Parts.{no_back}

@@ -5,8 +5,8 @@ use Rattle.vi_history.specs.Outcomes.{IsWellMade}
 use Rattle.vi_history.specs.declared.entry.Entry.{Entry}
 use Rattle.vi_history.specs.declared.outcome.Outcome.{Outcome}
 use Rattle.vi_history.specs.declared.outcome.Shown.{Shown}
-use Rattle.vi_script.specs.Value.{ScriptValue}
-use Rattle.vi_script.specs.Legal.{HasRecords}
+use Rattle.vi_lines.specs.Value.{ScriptValue}
+use Rattle.vi_lines.specs.Legal.{HasRecords}
 use Rattle.vi_model.specs.Worlds.{World}
 use Rattle.vi_model.specs.Playable.{IsPlayable}
 use Rattle.vi_model.specs.Sound.{IsSound}

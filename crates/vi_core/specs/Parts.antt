@@ -2,8 +2,8 @@
 use Rattle.std.specs.Prelude.{◌≡◌, ◌<◌, ◌+◌, ℕ, List, [], length, get_or, map, sum_by}
 use Rattle.vi_history.specs.declared.call.Caller.TheVariants.{Driver}
 use Rattle.vi_history.specs.declared.entry.Entry.{Entry}
-use Rattle.vi_script.specs.Value.{ScriptValue}
-use Rattle.vi_script.specs.Calls.{lines_of}
+use Rattle.vi_lines.specs.Value.{ScriptValue}
+use Rattle.vi_lines.specs.Calls.{lines_of}
 use Rattle.vi_model.specs.Control.{driver_count}
 use Rattle.vi_model.specs.Places.{place_count}
 use Rattle.vi_model.specs.Drivers.{no_stand}

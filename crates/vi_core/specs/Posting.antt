@@ -1,6 +1,6 @@
 -- Whether what is awaited is posted as finished.
 use Rattle.std.specs.Prelude.{ℕ, Bool, nat_le, List}
-use Rattle.vi_script.specs.declared.line.Await.{Await}
+use Rattle.vi_lines.specs.declared.line.Await.{Await}
 use Rattle.vi_model.specs.Control.{Control}
 use Rattle.vi_control.specs.Calls.{posted_by}
 

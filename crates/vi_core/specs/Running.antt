@@ -1,7 +1,7 @@
 -- What contracts see of a world.
 use Rattle.std.specs.Prelude.{List}
 use Rattle.vi_history.specs.declared.entry.Entry.{Entry}
-use Rattle.vi_script.specs.Value.{ScriptValue}
+use Rattle.vi_lines.specs.Value.{ScriptValue}
 use Rattle.vi_model.specs.Worlds.{World, opening}
 
 -- a script, and the world that turns of its actors have led to

@@ -1,7 +1,7 @@
 -- What is so of every world, whatever turns led to it.
 use Rattle.std.specs.Prelude.{◌≡◌, false, ◌&&◌, Some}
-use Rattle.vi_script.specs.Legal.{IsLegalHistory}
-use Rattle.vi_script.specs.Order.{IsOrderedSoFar}
+use Rattle.vi_lines.specs.Legal.{IsLegalHistory}
+use Rattle.vi_lines.specs.Order.{IsOrderedSoFar}
 use Rattle.vi_model.specs.Tasks.{removes}
 use Rattle.vi_model.specs.declared.task.Task.{Task}
 use Rattle.vi_model.specs.Removals.{Removal, first_ready}

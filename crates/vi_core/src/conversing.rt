@@ -19,8 +19,8 @@ use vi_backend::{Backend, Done, Wish};
 use vi_control::Control;
 use vi_history::Caller;
 use vi_iotlb::Frame;
+use vi_lines::{Await, Who};
 use vi_memory::Page;
-use vi_script::{Await, Who};
 
 /// The turn of the back end at this place, where it doesn't wish for an access: it posts how many of
 /// its lines are finished, and asks for a translation, or takes a frame where one is under way. An access waits here.

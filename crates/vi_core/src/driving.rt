@@ -1,7 +1,7 @@
 //! A driver's turn.
 ghost use Rattle.std.specs.Prelude.{◌≡◌, ◌<◌, true, None, Some};
 ghost use Rattle.vi_driver.specs.Drivers.{next_line, next_parcel, continues_batch};
-ghost use Rattle.vi_script.specs.declared.line.Line.{Line};
+ghost use Rattle.vi_lines.specs.declared.line.Line.{Line};
 ghost use Rattle.vi_core.specs.DriverTurns.{HasDriveRoom, HasLineRoom, IsDriversTurn, IsCollected, IsLeft, IsSubmission, first_of, line_in};
 
 use crate::Turned;
@@ -9,7 +9,7 @@ use crate::posted::are_posted;
 use vi_control::{Collected, Control};
 use vi_driver::{Driver, DriverWish};
 use vi_history::Caller;
-use vi_script::Await;
+use vi_lines::Await;
 
 /// A driver's turn: it collects its answered line of the lowest number and posts how many of its first lines are
 /// finished; or else it submits its next line, where its open lines are all of that line's batch and what that line

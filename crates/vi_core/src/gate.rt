@@ -1,5 +1,5 @@
 //! Moments of actors' turns at which somebody can look on.
-use vi_script::Who;
+use vi_lines::Who;
 
 /// A moment of an actor's turn.
 #[derive(Clone, Copy, Debug, PartialEq, Eq)]

@@ -94,31 +94,3 @@ fn copied(alloc: Global, bytes: &[u8], kept: &Kept) -> Result<Entry, AllocError>
         bytes: Bytes::of(alloc, own)?,
     })
 }
-
-#[cfg(test)]
-mod tests {
-    use super::*;
-    use std::test::Fail;
-    use vi_history::{Caller, Kind};
-
-    #[test]
-    fn keeps_its_entries(rt: HostRuntime) -> Result<(), Fail> {
-        let mark = Mark {
-            caller: Caller::Back(7),
-            line: 1,
-            part: 2,
-            kind: Kind::Read,
-            code: 0,
-        };
-        let mut history = History::with_room(rt.alloc(), 2, 3)?;
-        history.push(mark, b"abc");
-        history.push(Mark { part: 3, ..mark }, b"");
-        let entries = history.entries(rt.alloc())?;
-        assert_eq!(rt; entries.len(), 2);
-        assert_eq!(rt; entries[0].mark, mark);
-        assert_eq!(rt; entries[0].bytes.as_slice(), b"abc".as_slice());
-        assert_eq!(rt; entries[1].mark.part, 3);
-        assert!(rt; entries[1].bytes.is_empty());
-        Ok(())
-    }
-}

@@ -15,15 +15,12 @@ mod reader;
 mod room;
 mod round;
 mod serving;
-#[cfg(test)]
-mod tests;
 mod turned;
 mod world;
 
 pub use conversing::{converse, reach};
 pub use driving::drive;
 pub use gate::{Free, Gate, Point};
-pub use opening::pages_of;
 pub use outcome::outcome_of;
 pub use reader::read_event;
 pub use room::{byte_room, entry_room};

@@ -1,8 +1,7 @@
 //! What each actor begins with.
-ghost use Rattle.std.specs.Prelude.{◌≡◌, ◌<◌, ◌≤◌, ℕ, IfOk, length, get_or, map, replicate};
+ghost use Rattle.std.specs.Prelude.{◌≡◌, ◌<◌, ◌≤◌, ℕ, IfOk, length, get_or, map};
 ghost use Rattle.std.specs.List.{range_with_len};
-ghost use Rattle.vi_bytes.specs.declared.span.TheConstants.{PAGE};
-ghost use Rattle.vi_script.specs.Calls.{HasTransfers};
+ghost use Rattle.vi_lines.specs.Calls.{HasTransfers};
 ghost use Rattle.vi_model.specs.Places.{place_count};
 ghost use Rattle.vi_model.specs.Drivers.{no_stand};
 ghost use Rattle.vi_driver.specs.Drivers.{own_driver};
@@ -11,8 +10,7 @@ ghost use Rattle.vi_core.specs.Opening.{AreNew};
 use std::alloc::{AllocError, Global};
 use vi_backend::Backend;
 use vi_driver::Driver;
-use vi_memory::Page;
-use vi_script::Script;
+use vi_lines::Script;
 
 /// How many drivers there are, some of them without lines.
 const DRIVERS: u8 = 8;
@@ -42,15 +40,4 @@ pub fn backs_of(alloc: Global, script: &Script) -> Result<Vec<Backend>, AllocErr
         backs.push(Backend::new(alloc, script, place)?)?;
     }
     Ok(backs)
-}
-
-/// So many pages of zeros. An error is want of memory.
-pub fn pages_of(alloc: Global, count: u32) -> Result<Vec<Page>, AllocError>
-    ensures { IfOk result (λ pages. pages.items ≡ replicate count (replicate PAGE 0)) }
-{
-    let mut pages = Vec::new(alloc);
-    for _page in 0..count {
-        pages.push(Page::zero(alloc)?)?;
-    }
-    Ok(pages)
 }

@@ -5,7 +5,7 @@ ghost use Rattle.vi_control.specs.Calls.{IsCaller};
 ghost use Rattle.vi_core.specs.Posting.{is_posted_by};
 
 use vi_control::Control;
-use vi_script::Await;
+use vi_lines::Await;
 
 /// Whether all these lines are posted as finished.
 pub fn are_posted(control: &Control, awaits: &[Await]) -> bool

@@ -1,12 +1,12 @@
 //! For how much a script's history needs room.
 ghost use Rattle.std.specs.Prelude.{◌≡◌, ◌≤◌, ◌+◌, length, sum_by, All};
-ghost use Rattle.vi_script.specs.Calls.{TransfersWell, parts_of};
-ghost use Rattle.vi_script.specs.Limits.{bytes_in, transferred};
+ghost use Rattle.vi_lines.specs.Calls.{TransfersWell, parts_of};
+ghost use Rattle.vi_lines.specs.Limits.{bytes_in, transferred};
 ghost use Rattle.vi_model.specs.Rounds.{calls_in};
 ghost use Rattle.vi_core.specs.HistoryRoom.{answer_bytes, request_answer_bytes};
 
 use vi_history::{Caller, Request};
-use vi_script::{Job, Line};
+use vi_lines::{Job, Line};
 
 // How many bytes a PROBE's answer has (Virtio 1.2, 5.13.6.7).
 const PROPERTIES: u32 = 512;

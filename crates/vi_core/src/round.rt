@@ -4,7 +4,7 @@ ghost use Rattle.vi_model.specs.Rounds.{actors, backs_of, drivers_of};
 
 use std::alloc::{AllocError, Global};
 use vi_history::Caller;
-use vi_script::{Script, Who};
+use vi_lines::{Script, Who};
 
 /// Drivers are numbered from 0 to 7.
 const DRIVERS: u8 = 8;

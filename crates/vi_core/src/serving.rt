@@ -8,7 +8,7 @@ use crate::Turned;
 use crate::gate::{Gate, Point};
 use vi_control::{Control, Work};
 use vi_history::Mark;
-use vi_script::Who;
+use vi_lines::Who;
 
 /// What a turn of the device did, and the mark of the entry that it made, if it made one.
 #[derive(Clone, Copy, Debug, PartialEq, Eq)]

@@ -5,8 +5,8 @@ ghost use Rattle.vi_history.specs.Outcomes.{IsWellMade};
 ghost use Rattle.vi_model.specs.Playable.{IsPlayable};
 ghost use Rattle.vi_model.specs.Rounds.{is_finished};
 ghost use Rattle.vi_model.specs.Turns.{run, wished_page};
-ghost use Rattle.vi_script.specs.Ordered.{IsOrdered};
-ghost use Rattle.vi_script.specs.declared.line.Who.TheVariants as who;
+ghost use Rattle.vi_lines.specs.Ordered.{IsOrdered};
+ghost use Rattle.vi_lines.specs.declared.line.Who.TheVariants as who;
 ghost use Rattle.vi_driver.specs.Drivers as driver;
 ghost use Rattle.vi_backend.specs.Wishes as back;
 ghost use Rattle.vi_backend.specs.Wishes.{own_wish};
@@ -19,7 +19,7 @@ use crate::conversing::{converse, reach};
 use crate::driving::drive;
 use crate::gate::Free;
 use crate::history::History;
-use crate::opening::{backs_of, drivers_of, pages_of};
+use crate::opening::{backs_of, drivers_of};
 use crate::outcome::outcome_of;
 use crate::reader::read_event;
 use crate::room::{byte_room, entry_room};
@@ -31,8 +31,8 @@ use vi_backend::{Backend, Wish};
 use vi_control::Control;
 use vi_driver::Driver;
 use vi_history::Outcome;
-use vi_memory::Page;
-use vi_script::{Script, Who};
+use vi_lines::{Script, Who};
+use vi_memory::{Page, zero_pages};
 
 /// A script at work: what its actors share, what each of them has, the memory, and the history of their turns. All room is
 /// taken when it is built, and no turn takes memory.
@@ -70,7 +70,7 @@ impl World {
         let control = Control::build(alloc, &script)?;
         let drivers = drivers_of(alloc, &script)?;
         let backs = backs_of(alloc, &script)?;
-        let pages = pages_of(alloc, script.setup.memory)?;
+        let pages = zero_pages(alloc, script.setup.memory)?;
         let entries = entry_room(script.lines.as_slice());
         let bytes = byte_room(script.lines.as_slice());
         Ok(World {

@@ -16,6 +16,3 @@ mod translation;
 
 pub use device::Device;
 pub use vi_history::Found;
-
-#[cfg(test)]
-mod tests;

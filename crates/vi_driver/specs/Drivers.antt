@@ -1,10 +1,10 @@
 -- A driver as contracts see it.
 use Rattle.std.specs.Prelude.{◌≡◌, ◌==◌, ℕ, ◌+◌, ◌-◌, ◌^◌, ◌<◌, ◌≤◌, Bool, true, not, ◌&&◌, nat_le, List, take, length, count_by, All, Option, Some, None, slice_get}
 use Rattle.std.specs.List.{list_all}
-use Rattle.vi_script.specs.declared.line.Line.{Line}
+use Rattle.vi_lines.specs.declared.line.Line.{Line}
 use Rattle.vi_history.specs.declared.call.Caller.TheVariants.{Driver}
-use Rattle.vi_script.specs.Value.{ScriptValue}
-use Rattle.vi_script.specs.Calls.{lines_of}
+use Rattle.vi_lines.specs.Value.{ScriptValue}
+use Rattle.vi_lines.specs.Calls.{lines_of}
 use Rattle.vi_model.specs.Drivers.{Stand, Parcel, parcel_of, other_lines}
 
 -- its number, its own lines in the script's order, and how far it is

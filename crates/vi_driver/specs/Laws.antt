@@ -1,8 +1,8 @@
 -- What is known of a driver's own lines.
 use Rattle.std.specs.Prelude.{◌≡◌, ℕ, ◌+◌}
 use Rattle.vi_history.specs.declared.call.Caller.TheVariants.{Driver}
-use Rattle.vi_script.specs.Value.{ScriptValue}
-use Rattle.vi_script.specs.Calls.{line_of}
+use Rattle.vi_lines.specs.Value.{ScriptValue}
+use Rattle.vi_lines.specs.Calls.{line_of}
 use Rattle.vi_model.specs.Drivers.{Stand, is_one_batch}
 use Rattle.vi_driver.specs.Drivers.{own_driver, continues_batch, next_line}
 

@@ -1,8 +1,8 @@
 -- What a driver's line leaves for the device, part by part.
 use Rattle.std.specs.Prelude.{ℕ, Bool, List, [], Option, Some, None}
 use Rattle.vi_history.specs.Requests.{request_bytes}
-use Rattle.vi_script.specs.declared.job.Job.{Job}
-use Rattle.vi_script.specs.declared.job.Job.TheVariants as job
+use Rattle.vi_lines.specs.declared.job.Job.{Job}
+use Rattle.vi_lines.specs.declared.job.Job.TheVariants as job
 use Rattle.vi_model.specs.Drivers.{Parcel, Chain, Switch}
 
 -- the bytes of a job's request with fields; other jobs have none to encode

@@ -1,7 +1,7 @@
 -- What a driver wants to do next.
 use Rattle.std.specs.Prelude.{if◌then◌else◌, List, [], ◌∷◌, Option, Some, None}
-use Rattle.vi_script.specs.declared.line.Await.{Await}
-use Rattle.vi_script.specs.declared.line.Line.{Line}
+use Rattle.vi_lines.specs.declared.line.Await.{Await}
+use Rattle.vi_lines.specs.declared.line.Line.{Line}
 use Rattle.vi_driver.specs.declared.wish.DriverWish.{DriverWish}
 use Rattle.vi_driver.specs.declared.wish.DriverWish.TheVariants.{Submit, Collect, Await as Wait, Rest}
 use Rattle.vi_driver.specs.Drivers.{OwnDriver, continues_batch, next_line, is_open}

@@ -1,7 +1,7 @@
 //! A driver's own state.
 ghost use Rattle.std.specs.Prelude.{◌≡◌, ◌==◌, ◌+◌, ◌≤◌, ◌<◌, ◌^◌, true, length, All, IfOk, IsSome};
 ghost use Rattle.std.specs.List.{list_any};
-ghost use Rattle.vi_script.specs.Calls.{lines_of, awaits_in};
+ghost use Rattle.vi_lines.specs.Calls.{lines_of, awaits_in};
 ghost use Rattle.vi_model.specs.Drivers.{finished_first, next_open, no_stand, other_lines};
 ghost use Rattle.vi_driver.specs.Drivers.{IsSubmitted, MaySubmit, own_driver, is_finished, is_open, next_line, next_parcel, closed};
 ghost use Rattle.vi_driver.specs.Parcels.{read_in, write_in, switch_in};
@@ -14,7 +14,7 @@ use arrayvec::ArrayVec;
 use std::alloc::{AllocError, Global};
 use std::marker::Model;
 use vi_history::Caller;
-use vi_script::{Await, Script};
+use vi_lines::{Await, Script};
 
 /// A driver: its own lines of the script, of which the first ones are submitted, and the numbers of those
 /// whose calls are open, at most 8, rising. Lines are counted from 1. Only `new` takes memory.

@@ -5,8 +5,6 @@ mod batch;
 mod driver;
 pub mod laws;
 mod own;
-#[cfg(test)]
-mod tests;
 mod wish;
 
 pub use driver::Driver;

@@ -9,8 +9,8 @@ use std::alloc::{AllocError, Global};
 use std::marker::Model;
 use vi_bytes::{Bytes, Items};
 use vi_history::Request;
+use vi_lines::{Await, Job, Line};
 use vi_req::encode;
-use vi_script::{Await, Job, Line};
 
 /// A copy of a line, whose request is encoded once, so that lending its bytes takes no memory.
 #[derive(Debug, Drop)]
@@ -21,7 +21,7 @@ pub struct OwnLine {
 
 impl Model for OwnLine {
     ghost use Rattle.std.specs.Prelude.{◌≡◌};
-    ghost use Rattle.vi_script.specs.declared.line.Line.{Line};
+    ghost use Rattle.vi_lines.specs.declared.line.Line.{Line};
     ghost use Rattle.vi_driver.specs.Parcels.{encoded_of};
 
     ghost Value = { Line };

@@ -6,6 +6,3 @@ mod buffers;
 mod queue;
 
 pub use queue::EventQueue;
-
-#[cfg(test)]
-mod tests;

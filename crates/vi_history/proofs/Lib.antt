@@ -1,4 +1,1 @@
 mod Examples
-mod LogsKeeping
-pub mod LogsMerging
-pub mod LogsPlacing

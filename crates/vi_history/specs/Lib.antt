@@ -7,7 +7,6 @@ pub mod Replies
 pub mod Start
 pub mod Kinds
 pub mod Histories
-pub mod Logs
 pub mod Records
 pub mod Outcomes
 pub mod Runs

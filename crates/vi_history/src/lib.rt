@@ -5,9 +5,6 @@
 mod call;
 mod entry;
 mod found;
-pub mod laws;
-mod log;
-mod merging;
 mod outcome;
 mod reading;
 pub mod reason;
@@ -18,8 +15,6 @@ pub mod status;
 pub use call::{Call, Caller};
 pub use entry::{Entry, Kind, Mark};
 pub use found::Found;
-pub use log::Log;
-pub use merging::merge;
 pub use outcome::{Outcome, Shown};
 pub use reading::Reading;
 pub use request::{ATTACH, DETACH, MAP, PROBE, Request, UNMAP};

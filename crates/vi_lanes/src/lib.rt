@@ -8,6 +8,3 @@ mod miss;
 
 pub use lanes::Lanes;
 pub use miss::Miss;
-
-#[cfg(test)]
-mod tests;

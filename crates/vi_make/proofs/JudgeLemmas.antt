@@ -8,15 +8,16 @@ use Rattle.std.proofs.lemmas.List.Folds.{list_all-append}
 use Rattle.vi_history.specs.declared.call.Caller.{Caller}
 use Rattle.vi_history.specs.declared.call.Caller.TheVariants.{Driver}
 use Rattle.vi_words.specs.Words.{says_nothing}
-use Rattle.vi_script.specs.declared.line.Line.{Line}
-use Rattle.vi_script.specs.Calls.{same_caller}
+use Rattle.vi_lines.specs.declared.line.Line.{Line}
+use Rattle.vi_lines.specs.Calls.{same_caller}
 use Rattle.vi_script.specs.Forms.{Act, Acts, form_of}
-use Rattle.vi_script.specs.Judging.{is_declared, job_runs_over, line_fits, count_lines, awaits_well, taken}
-use Rattle.vi_script.specs.Limits.{is_job, is_driver, transferred, bytes_in, longest_batch_from, longest_batch, open_calls}
+use Rattle.vi_lines.specs.Rules.{job_runs_over, count_lines, awaits_well}
+use Rattle.vi_script.specs.Judging.{is_declared, line_fits, taken}
+use Rattle.vi_lines.specs.Limits.{is_job, is_driver, transferred, bytes_in, longest_batch_from, longest_batch, open_calls}
 use Rattle.vi_script.specs.Said.{Said, says}
 use Rattle.vi_script.specs.Statements.{Actor, line_with}
 use Rattle.vi_script.specs.Texts.{judge}
-use Rattle.vi_script.proofs.IndexLemmas.{same_caller-self}
+use Rattle.vi_lines.proofs.IndexLemmas.{same_caller-self}
 use Rattle.vi_make.proofs.WordLemmas.{are_plain_words, joined, words_of-joined, has_bad_byte-joined}
 
 -- what was said, and one more line

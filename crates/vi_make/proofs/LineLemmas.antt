@@ -6,10 +6,10 @@ use Rattle.vi_history.specs.declared.call.Caller.TheVariants.{Driver, Back}
 use Rattle.vi_history.specs.declared.request.Request.{Request}
 use Rattle.vi_history.specs.declared.request.Request.TheVariants.{Attach, Map, Unmap}
 use Rattle.vi_words.specs.Numbers.{number_of, digits_in}
-use Rattle.vi_script.specs.declared.job.Job.{Job}
-use Rattle.vi_script.specs.declared.job.Job.TheVariants as job
-use Rattle.vi_script.specs.declared.line.Line.{Line}
-use Rattle.vi_script.specs.declared.line.Await.{Await}
+use Rattle.vi_lines.specs.declared.job.Job.{Job}
+use Rattle.vi_lines.specs.declared.job.Job.TheVariants as job
+use Rattle.vi_lines.specs.declared.line.Line.{Line}
+use Rattle.vi_lines.specs.declared.line.Await.{Await}
 use Rattle.vi_script.specs.Forms.{Act, Deed, Attaches, Maps, Unmaps, Reads, Writes, form_of}
 use Rattle.vi_make.proofs.NumberLemmas.{number_of-decimal, hex_of-encode, are_plain-decimal, is_plain_word-decimal, is_plain_word-encode}
 use Rattle.vi_make.proofs.NameLemmas.{awaits, caller_of-driver, caller_of-back, is_word-back, await_of-driver, await_of-back, are_plain-await}

@@ -10,7 +10,7 @@ use Rattle.vi_history.specs.declared.call.Caller.{Caller}
 use Rattle.vi_history.specs.declared.call.Caller.TheVariants.{Driver, Back}
 use Rattle.vi_words.specs.Numbers.{name_number_of}
 use Rattle.vi_words.specs.Words.{is_word}
-use Rattle.vi_script.specs.declared.line.Await.{Await}
+use Rattle.vi_lines.specs.declared.line.Await.{Await}
 use Rattle.vi_script.specs.Forms.{caller_of, await_of}
 use Rattle.vi_script.proofs.ReadLemmas.{await_read}
 use Rattle.vi_make.proofs.WordLemmas.{is_plain, are_plain}

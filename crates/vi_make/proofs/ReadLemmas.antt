@@ -2,7 +2,7 @@
 use Rattle.std.proofs.Common.{◌≡◌, ℕ, ◌+◌, List, [], ◌∷◌, ◌++◌, length, refl, ap, subst, ◌∙◌, append_assoc, arith}
 use Rattle.vi_history.specs.declared.call.Caller.{Caller}
 use Rattle.vi_words.specs.Words.{lines_of_text}
-use Rattle.vi_script.specs.declared.line.Line.{Line}
+use Rattle.vi_lines.specs.declared.line.Line.{Line}
 use Rattle.vi_script.specs.Forms.{Act}
 use Rattle.vi_script.specs.Said.{Said}
 use Rattle.vi_script.specs.Texts.{said_from}

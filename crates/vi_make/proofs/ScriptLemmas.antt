@@ -6,7 +6,7 @@ use Rattle.vi_history.specs.declared.call.Caller.TheVariants.{Driver}
 use Rattle.vi_history.specs.declared.request.Request.TheVariants.{Attach}
 use Rattle.vi_words.specs.Words.{lines_of_text, words_of}
 use Rattle.vi_words.specs.Numbers.{number_of, digits_in}
-use Rattle.vi_script.specs.declared.line.Line.{Line}
+use Rattle.vi_lines.specs.declared.line.Line.{Line}
 use Rattle.vi_script.specs.Forms.{form_of}
 use Rattle.vi_script.specs.Said.{Said, nothing_said, script_of}
 use Rattle.vi_script.specs.Texts.{judge, said_from, script_from, script}

@@ -7,13 +7,13 @@ use Rattle.vi_bytes.specs.declared.region.EndpointSetup.{EndpointSetup}
 use Rattle.vi_history.specs.declared.call.Caller.{Caller}
 use Rattle.vi_history.specs.declared.call.Caller.TheVariants.{Driver, Back}
 use Rattle.vi_history.specs.declared.request.Request.{Request}
-use Rattle.vi_script.specs.declared.job.Job.{Job}
-use Rattle.vi_script.specs.declared.job.Job.TheVariants as job
-use Rattle.vi_script.specs.declared.line.Line.{Line}
-use Rattle.vi_script.specs.declared.line.Await.{Await}
-use Rattle.vi_script.specs.Calls.{same_caller}
-use Rattle.vi_script.specs.Judging.{count_lines, awaits_well}
-use Rattle.vi_script.specs.Limits.{transferred, bytes_in}
+use Rattle.vi_lines.specs.declared.job.Job.{Job}
+use Rattle.vi_lines.specs.declared.job.Job.TheVariants as job
+use Rattle.vi_lines.specs.declared.line.Line.{Line}
+use Rattle.vi_lines.specs.declared.line.Await.{Await}
+use Rattle.vi_lines.specs.Calls.{same_caller}
+use Rattle.vi_lines.specs.Rules.{count_lines, awaits_well}
+use Rattle.vi_lines.specs.Limits.{transferred, bytes_in}
 use Rattle.vi_script.specs.Said.{Said, declared_endpoint}
 use Rattle.vi_script.proofs.TallyLemmas.{bytes_in_push}
 use Rattle.vi_make.specs.LoadScript.{endpoint_of}

@@ -7,9 +7,9 @@ use Rattle.std.proofs.lemmas.Bool.Decides.{nat_tests}
 use Rattle.hex.specs.Hex.{IsBytes, encode_lower}
 use Rattle.vi_history.specs.declared.call.Caller.TheVariants.{Driver, Back}
 use Rattle.vi_history.specs.declared.request.Request.TheVariants.{Map, Unmap}
-use Rattle.vi_script.specs.declared.job.Job.TheVariants as job
-use Rattle.vi_script.specs.declared.line.Line.{Line}
-use Rattle.vi_script.specs.declared.line.Await.{Await}
+use Rattle.vi_lines.specs.declared.job.Job.TheVariants as job
+use Rattle.vi_lines.specs.declared.line.Line.{Line}
+use Rattle.vi_lines.specs.declared.line.Await.{Await}
 use Rattle.vi_script.specs.Forms.{Writes}
 use Rattle.vi_script.specs.Said.{Said}
 use Rattle.vi_make.specs.LoadScript.{endpoint_of, first_of, last_of, target_of, written_in, map_line, write_line, read_line, unmap_line, fault_line, turn_lines}

@@ -4,8 +4,6 @@
 mod counts;
 mod laws;
 mod load;
-#[cfg(test)]
-mod tests;
 mod turn;
 
 pub use counts::summary;

@@ -2,5 +2,7 @@
 #![tactic(auto)]
 
 mod page;
+mod pages;
 
 pub use page::Page;
+pub use pages::zero_pages;

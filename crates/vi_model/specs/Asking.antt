@@ -4,7 +4,7 @@ use Rattle.std.specs.List.{AllByRecursion}
 use Rattle.vi_bytes.specs.Leases.{has_page}
 use Rattle.vi_bytes.specs.declared.lease.Lease.{Lease}
 use Rattle.vi_history.specs.Translation.{permits}
-use Rattle.vi_script.specs.Value.{ScriptValue}
+use Rattle.vi_lines.specs.Value.{ScriptValue}
 use Rattle.vi_model.specs.Lanes.{Miss, count_updates}
 use Rattle.vi_model.specs.Control.{Link}
 use Rattle.vi_model.specs.Serves.{page_of}

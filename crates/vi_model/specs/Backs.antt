@@ -11,9 +11,9 @@ use Rattle.vi_history.specs.Translation.{permits}
 use Rattle.vi_history.specs.declared.call.Call.{Call}
 use Rattle.vi_history.specs.declared.call.Call.TheVariants as call
 use Rattle.vi_history.specs.declared.entry.Entry.{Entry}
-use Rattle.vi_script.specs.declared.line.Await.{Await}
-use Rattle.vi_script.specs.Value.{ScriptValue}
-use Rattle.vi_script.specs.Calls.{lines_of, call_of, awaits_of, part_count_of}
+use Rattle.vi_lines.specs.declared.line.Await.{Await}
+use Rattle.vi_lines.specs.Value.{ScriptValue}
+use Rattle.vi_lines.specs.Calls.{lines_of, call_of, awaits_of, part_count_of}
 use Rattle.vi_model.specs.Lanes.{Down, Update, Invalidate, Miss}
 use Rattle.vi_model.specs.Grants.{piece}
 use Rattle.vi_model.specs.Caches.{cached_at, untouched, put, fronted}

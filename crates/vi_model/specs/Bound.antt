@@ -4,10 +4,10 @@ use Rattle.vi_bytes.specs.Leases.{has_page}
 use Rattle.vi_bytes.specs.declared.lease.Lease.{Lease}
 use Rattle.vi_history.specs.Translation.{permits}
 use Rattle.vi_history.specs.declared.call.Caller.TheVariants.{Driver}
-use Rattle.vi_script.specs.declared.line.Line.{Line}
-use Rattle.vi_script.specs.declared.line.Who.{Who}
-use Rattle.vi_script.specs.Value.{ScriptValue}
-use Rattle.vi_script.specs.Calls.{lines_of, parts_of}
+use Rattle.vi_lines.specs.declared.line.Line.{Line}
+use Rattle.vi_lines.specs.declared.line.Who.{Who}
+use Rattle.vi_lines.specs.Value.{ScriptValue}
+use Rattle.vi_lines.specs.Calls.{lines_of, parts_of}
 use Rattle.vi_model.specs.Lanes.{Down, Update, Invalidate, Miss}
 use Rattle.vi_model.specs.Caches.{cached_at}
 use Rattle.vi_model.specs.Control.{Setting, Port, Link, Control, driver_count, port_of, link_of}

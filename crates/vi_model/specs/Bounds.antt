@@ -2,9 +2,9 @@
 use Rattle.std.specs.Prelude.{◌≡◌, ◌⊎◌, ◌^◌, ◌+◌, ◌<◌, ◌≤◌, ℕ, true, List, [], ◌∷◌, length, sum_by, Option, Some, None}
 use Rattle.vi_bytes.specs.declared.span.Span.{Span}
 use Rattle.vi_history.specs.declared.call.Caller.TheVariants.{Driver}
-use Rattle.vi_script.specs.declared.line.Line.{Line}
-use Rattle.vi_script.specs.Value.{ScriptValue}
-use Rattle.vi_script.specs.Calls.{line_of}
+use Rattle.vi_lines.specs.declared.line.Line.{Line}
+use Rattle.vi_lines.specs.Value.{ScriptValue}
+use Rattle.vi_lines.specs.Calls.{line_of}
 use Rattle.std.specs.List.{list_any}
 use Rattle.vi_model.specs.Removals.{waits_for}
 use Rattle.vi_model.specs.Lanes.{Down, Invalidate, Miss}

@@ -3,8 +3,8 @@ use Rattle.std.specs.Prelude.{◌-◌, List, get_or, map}
 use Rattle.vi_history.specs.Records.{records, IsShownWell}
 use Rattle.vi_history.specs.declared.call.Call.{Call}
 use Rattle.vi_history.specs.declared.outcome.Shown.{Shown}
-use Rattle.vi_script.specs.Value.{ScriptValue}
-use Rattle.vi_script.specs.Legal.{AreCalls}
+use Rattle.vi_lines.specs.Value.{ScriptValue}
+use Rattle.vi_lines.specs.Legal.{AreCalls}
 use Rattle.vi_model.specs.Worlds.{World}
 use Rattle.vi_model.specs.Sound.{IsSound}
 

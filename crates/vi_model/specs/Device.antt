@@ -1,7 +1,7 @@
 -- The device's turn: the first of five rules that applies.
 use Rattle.std.specs.Prelude.{ℕ, Bool, false, not, ◌||◌, nat_lt, if◌then◌else◌, List, [], ◌∷◌, length, Option, Some, None, is_some, find}
 use Rattle.std.specs.List.{range_with_len}
-use Rattle.vi_script.specs.Value.{ScriptValue}
+use Rattle.vi_lines.specs.Value.{ScriptValue}
 use Rattle.vi_model.specs.Lanes.{Miss}
 use Rattle.vi_model.specs.Removals.{Removal, first_ready}
 use Rattle.vi_model.specs.Control.{Queued, Setting, Port, Control, Made, Link, driver_count, port_of, link_of, with_port}

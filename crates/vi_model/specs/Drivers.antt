@@ -4,12 +4,12 @@ use Rattle.std.specs.List.{list_all}
 use Rattle.vi_history.specs.Requests.{request_bytes, writable_size}
 use Rattle.vi_history.specs.declared.call.Caller.TheVariants.{Driver}
 use Rattle.vi_req.specs.Requests.{type_of}
-use Rattle.vi_script.specs.declared.job.Job.{Job}
-use Rattle.vi_script.specs.declared.job.Job.TheVariants as job
-use Rattle.vi_script.specs.declared.line.Line.{Line}
-use Rattle.vi_script.specs.Value.{ScriptValue}
-use Rattle.vi_script.specs.Calls.{line_of}
-use Rattle.vi_script.specs.Order.{batch_of}
+use Rattle.vi_lines.specs.declared.job.Job.{Job}
+use Rattle.vi_lines.specs.declared.job.Job.TheVariants as job
+use Rattle.vi_lines.specs.declared.line.Line.{Line}
+use Rattle.vi_lines.specs.Value.{ScriptValue}
+use Rattle.vi_lines.specs.Calls.{line_of}
+use Rattle.vi_lines.specs.Order.{batch_of}
 use Rattle.vi_model.specs.Control.{Answered, Port, Control, port_of, with_port}
 use Rattle.vi_model.specs.Posted.{all_posted}
 

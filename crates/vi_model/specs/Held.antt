@@ -3,9 +3,9 @@ use Rattle.std.specs.Prelude.{◌≡◌, ◌==◌, ℕ, ◌+◌, ◌<◌, ◌≤
 use Rattle.std.specs.List.{AllByRecursion}
 use Rattle.vi_history.specs.declared.call.Caller.TheVariants.{Driver}
 use Rattle.vi_history.specs.declared.entry.Entry.{Entry}
-use Rattle.vi_script.specs.Value.{ScriptValue}
-use Rattle.vi_script.specs.Calls.{lines_of, awaits_of}
-use Rattle.vi_script.specs.Order.{entries_at, batch_of}
+use Rattle.vi_lines.specs.Value.{ScriptValue}
+use Rattle.vi_lines.specs.Calls.{lines_of, awaits_of}
+use Rattle.vi_lines.specs.Order.{entries_at, batch_of}
 use Rattle.vi_model.specs.Tasks.{task_at}
 use Rattle.vi_model.specs.Removals.{Removal}
 use Rattle.vi_model.specs.Control.{Queued, Setting, Answered, Started, driver_count}

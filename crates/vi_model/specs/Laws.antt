@@ -2,16 +2,16 @@
 use Rattle.std.specs.Prelude.{◌≡◌, ◌⊎◌, ◌==◌, ◌≢◌, ◌<◌, ◌≤◌, ℕ, Bool, true, false, List, [], ◌∷◌, length, get_or}
 use Rattle.std.specs.List.{AllByRecursion}
 use Rattle.vi_bytes.specs.declared.lease.Lease.{Lease}
-use Rattle.vi_script.specs.declared.line.Who.{Who}
-use Rattle.vi_script.specs.declared.line.Who.TheVariants as who
-use Rattle.vi_script.specs.Value.{ScriptValue}
-use Rattle.vi_script.specs.Valid.{IsValid}
-use Rattle.vi_script.specs.Fields as fields
+use Rattle.vi_lines.specs.declared.line.Who.{Who}
+use Rattle.vi_lines.specs.declared.line.Who.TheVariants as who
+use Rattle.vi_lines.specs.Value.{ScriptValue}
+use Rattle.vi_lines.specs.Valid.{IsValid}
+use Rattle.vi_lines.specs.Fields as fields
 use Rattle.vi_history.specs.declared.call.Caller.TheVariants.{Driver}
-use Rattle.vi_script.specs.Calls.{lines_of}
-use Rattle.vi_script.specs.Ordered.{IsOrdered}
-use Rattle.vi_script.specs.Legal.{IsLegalHistory}
-use Rattle.vi_script.specs.Order.{IsOrderedSoFar}
+use Rattle.vi_lines.specs.Calls.{lines_of}
+use Rattle.vi_lines.specs.Ordered.{IsOrdered}
+use Rattle.vi_lines.specs.Legal.{IsLegalHistory}
+use Rattle.vi_lines.specs.Order.{IsOrderedSoFar}
 use Rattle.vi_model.specs.Places.{place_count, place_of, id_at, back_at}
 use Rattle.vi_model.specs.Control.{driver_count}
 use Rattle.vi_model.specs.Actors.{Actor}

@@ -1,10 +1,10 @@
 -- The scripts that can be played: valid ones whose requests fit their fields.
 use Rattle.std.specs.List.{AllByRecursion}
 use Rattle.vi_req.specs.Requests.{FieldsFit}
-use Rattle.vi_script.specs.declared.job.Job.{Job}
-use Rattle.vi_script.specs.declared.job.Job.TheVariants as job
-use Rattle.vi_script.specs.Value.{ScriptValue}
-use Rattle.vi_script.specs.Valid.{IsValid}
+use Rattle.vi_lines.specs.declared.job.Job.{Job}
+use Rattle.vi_lines.specs.declared.job.Job.TheVariants as job
+use Rattle.vi_lines.specs.Value.{ScriptValue}
+use Rattle.vi_lines.specs.Valid.{IsValid}
 
 -- the request of a job fits its fields: domain, endpoint and flags are below 2^32, and addresses below 2^64
 abbrev pub JobFits : Job → Type 0

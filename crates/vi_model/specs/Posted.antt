@@ -3,9 +3,9 @@ use Rattle.std.specs.Prelude.{◌==◌, ℕ, Bool, ◌&&◌, nat_le, List, get_o
 use Rattle.std.specs.List.{list_any, list_all}
 use Rattle.vi_history.specs.declared.call.Caller.{Caller}
 use Rattle.vi_history.specs.declared.call.Caller.TheVariants.{Driver, Back}
-use Rattle.vi_script.specs.declared.line.Await.{Await}
-use Rattle.vi_script.specs.Value.{ScriptValue}
-use Rattle.vi_script.specs.Calls.{same_caller}
+use Rattle.vi_lines.specs.declared.line.Await.{Await}
+use Rattle.vi_lines.specs.Value.{ScriptValue}
+use Rattle.vi_lines.specs.Calls.{same_caller}
 use Rattle.vi_model.specs.Control.{Control, port_of}
 use Rattle.vi_model.specs.Places.{place_of}
 

@@ -9,11 +9,11 @@ use Rattle.vi_history.specs.declared.call.Caller.{Caller}
 use Rattle.vi_history.specs.declared.call.Caller.TheVariants.{Driver, Back}
 use Rattle.vi_history.specs.declared.request.Request.{Request}
 use Rattle.vi_history.specs.declared.request.Request.TheVariants.{Attach, Detach, Map, Unmap, Probe}
-use Rattle.vi_script.specs.declared.job.Job.{Job}
-use Rattle.vi_script.specs.declared.job.Job.TheVariants as job
-use Rattle.vi_script.specs.declared.line.Line.{Line}
-use Rattle.vi_script.specs.Value.{ScriptValue}
-use Rattle.vi_script.specs.Calls.{lines_of, driver_call, parts_of}
+use Rattle.vi_lines.specs.declared.job.Job.{Job}
+use Rattle.vi_lines.specs.declared.job.Job.TheVariants as job
+use Rattle.vi_lines.specs.declared.line.Line.{Line}
+use Rattle.vi_lines.specs.Value.{ScriptValue}
+use Rattle.vi_lines.specs.Calls.{lines_of, driver_call, parts_of}
 use Rattle.vi_model.specs.Tasks.{task_in}
 use Rattle.vi_model.specs.declared.task.Task.{Task}
 use Rattle.vi_model.specs.declared.task.Task.TheVariants.{Reads, Sets}

@@ -9,7 +9,7 @@ use Rattle.vi_history.specs.Runs.{run}
 use Rattle.vi_history.specs.declared.found.Found.{Found}
 use Rattle.vi_history.specs.declared.found.Found.TheVariants as found
 use Rattle.vi_history.specs.declared.outcome.Shown.{Shown}
-use Rattle.vi_script.specs.Value.{ScriptValue}
+use Rattle.vi_lines.specs.Value.{ScriptValue}
 use Rattle.vi_model.specs.Lanes.{Update, Miss}
 use Rattle.vi_model.specs.Grants.{lease_under, granted}
 use Rattle.vi_model.specs.Removals.{Removal, acked, acked_grants, closed}

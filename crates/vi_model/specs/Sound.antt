@@ -8,9 +8,9 @@ use Rattle.vi_history.specs.Records.{records}
 use Rattle.vi_history.specs.declared.call.Call.{Call}
 use Rattle.vi_history.specs.declared.entry.Entry.{Entry}
 use Rattle.vi_history.specs.declared.outcome.Shown.{Shown}
-use Rattle.vi_script.specs.Value.{ScriptValue}
-use Rattle.vi_script.specs.Legal.{AreCalls}
-use Rattle.vi_script.specs.Order.{IsOrderedSoFar}
+use Rattle.vi_lines.specs.Value.{ScriptValue}
+use Rattle.vi_lines.specs.Legal.{AreCalls}
+use Rattle.vi_lines.specs.Order.{IsOrderedSoFar}
 use Rattle.vi_model.specs.Lanes.{Miss, Lanes}
 use Rattle.vi_grants.specs.declared.row.Grant.{Grant}
 use Rattle.vi_model.specs.Removals.{Removal}

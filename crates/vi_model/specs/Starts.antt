@@ -7,7 +7,7 @@ use Rattle.vi_history.specs.Replies.{Answer}
 use Rattle.vi_history.specs.declared.call.Caller.{Caller}
 use Rattle.vi_history.specs.declared.call.Caller.TheVariants.{Driver}
 use Rattle.vi_history.specs.declared.entry.Entry.{Entry}
-use Rattle.vi_script.specs.Value.{ScriptValue}
+use Rattle.vi_lines.specs.Value.{ScriptValue}
 use Rattle.vi_model.specs.Tasks.{task_answer, task_commit, removes, reach_of}
 use Rattle.vi_model.specs.declared.task.Task.{Task}
 use Rattle.vi_model.specs.declared.task.Task.TheVariants.{Reads, Sets}

@@ -3,7 +3,7 @@ use Rattle.std.specs.Prelude.{◌≡◌, ◌<◌, ℕ, false, List, [], ◌∷�
 use Rattle.std.specs.List.{AllByRecursion}
 use Rattle.vi_bytes.specs.declared.lease.Lease.{Lease}
 use Rattle.vi_history.specs.Device.{Dev}
-use Rattle.vi_script.specs.Value.{ScriptValue}
+use Rattle.vi_lines.specs.Value.{ScriptValue}
 use Rattle.vi_model.specs.Tasks.{closes}
 use Rattle.vi_model.specs.declared.task.Task.{Task}
 use Rattle.vi_model.specs.Lanes.{Down, Update, Invalidate}

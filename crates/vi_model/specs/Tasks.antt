@@ -18,8 +18,8 @@ use Rattle.vi_history.specs.declared.request.Request.TheVariants.{Attach, Detach
 use Rattle.vi_history.specs.declared.call.Call.{Call}
 use Rattle.vi_history.specs.declared.call.Call.TheVariants as call
 use Rattle.vi_history.specs.declared.call.Caller.TheVariants.{Driver}
-use Rattle.vi_script.specs.Value.{ScriptValue}
-use Rattle.vi_script.specs.Calls.{call_of}
+use Rattle.vi_lines.specs.Value.{ScriptValue}
+use Rattle.vi_lines.specs.Calls.{call_of}
 use Rattle.vi_model.specs.declared.task.Task.{Task}
 use Rattle.vi_model.specs.declared.task.Task.TheVariants.{Reads, Sets}
 

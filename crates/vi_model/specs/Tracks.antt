@@ -2,9 +2,9 @@
 use Rattle.std.specs.Prelude.{◌≡◌, ◌⊎◌, ℕ, ◌+◌, Bool, true, if◌then◌else◌, List, [], ◌∷◌, All, IsTrue}
 use Rattle.vi_history.specs.Replies.{fault_answer}
 use Rattle.vi_history.specs.declared.entry.Entry.{Entry}
-use Rattle.vi_script.specs.declared.line.Await.{Await}
-use Rattle.vi_script.specs.Value.{ScriptValue}
-use Rattle.vi_script.specs.Order.{Place, due_place, is_whole}
+use Rattle.vi_lines.specs.declared.line.Await.{Await}
+use Rattle.vi_lines.specs.Value.{ScriptValue}
+use Rattle.vi_lines.specs.Order.{Place, due_place, is_whole}
 use Rattle.vi_model.specs.Control.{Link}
 use Rattle.vi_model.specs.Places.{back_at}
 use Rattle.vi_model.specs.Starts.{any, entry_of}

@@ -3,10 +3,10 @@ use Rattle.std.specs.Prelude.{◌==◌, ℕ, Bool, true, false, ◌&&◌, nat_lt
 use Rattle.vi_history.specs.declared.outcome.Shown.{Shown}
 use Rattle.vi_history.specs.declared.entry.Entry.{Entry}
 use Rattle.vi_history.specs.declared.call.Caller.TheVariants.{Driver}
-use Rattle.vi_script.specs.declared.line.Who.{Who}
-use Rattle.vi_script.specs.declared.line.Who.TheVariants as who
-use Rattle.vi_script.specs.Value.{ScriptValue}
-use Rattle.vi_script.specs.Calls.{lines_of}
+use Rattle.vi_lines.specs.declared.line.Who.{Who}
+use Rattle.vi_lines.specs.declared.line.Who.TheVariants as who
+use Rattle.vi_lines.specs.Value.{ScriptValue}
+use Rattle.vi_lines.specs.Calls.{lines_of}
 use Rattle.vi_model.specs.Control.{Events, Control, Made, driver_count, link_of, with_link}
 use Rattle.vi_model.specs.Places.{place_count, place_of}
 use Rattle.vi_model.specs.Device.{device_turn}

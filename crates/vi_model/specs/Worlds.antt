@@ -2,9 +2,9 @@
 use Rattle.std.specs.Prelude.{ℕ, List, [], get_or, set, replicate, None}
 use Rattle.vi_history.specs.Start.{start_dev, start}
 use Rattle.vi_history.specs.declared.entry.Entry.{Entry}
-use Rattle.vi_script.specs.declared.line.Who.{Who}
-use Rattle.vi_script.specs.declared.line.Who.TheVariants as who
-use Rattle.vi_script.specs.Value.{ScriptValue}
+use Rattle.vi_lines.specs.declared.line.Who.{Who}
+use Rattle.vi_lines.specs.declared.line.Who.TheVariants as who
+use Rattle.vi_lines.specs.Value.{ScriptValue}
 use Rattle.vi_model.specs.Control.{Control, no_port, no_lanes, driver_count}
 use Rattle.vi_model.specs.Places.{place_count, place_of}
 use Rattle.vi_model.specs.Drivers.{Stand, no_stand}

@@ -9,13 +9,13 @@ use Rattle.vi_history.specs.Kinds.{is_fault}
 use Rattle.vi_history.specs.declared.call.Caller.{Caller}
 use Rattle.vi_history.specs.declared.call.Caller.TheVariants.{Driver, Back}
 use Rattle.vi_history.specs.declared.entry.Entry.{Entry}
-use Rattle.vi_script.specs.declared.line.Await.{Await}
-use Rattle.vi_script.specs.Value.{ScriptValue}
-use Rattle.vi_script.specs.Valid.{IsValid}
-use Rattle.vi_script.specs.Calls.{same_caller, lines_of, call_of, awaits_of, part_count_of}
-use Rattle.vi_script.specs.Order.{entries_of, ends_block, is_whole, entries_at, place_after, Place, due_place, IsNext, IsDue, AreDue}
-use Rattle.vi_script.specs.Ordered.{IsBlockFrom, AreBlocks, IsOrdered}
-use Rattle.vi_script.proofs.IndexLemmas.{same_caller-eq}
+use Rattle.vi_lines.specs.declared.line.Await.{Await}
+use Rattle.vi_lines.specs.Value.{ScriptValue}
+use Rattle.vi_lines.specs.Valid.{IsValid}
+use Rattle.vi_lines.specs.Calls.{same_caller, lines_of, call_of, awaits_of, part_count_of}
+use Rattle.vi_lines.specs.Order.{entries_of, ends_block, is_whole, entries_at, place_after, Place, due_place, IsNext, IsDue, AreDue}
+use Rattle.vi_lines.specs.Ordered.{IsBlockFrom, AreBlocks, IsOrdered}
+use Rattle.vi_lines.proofs.IndexLemmas.{same_caller-eq}
 use Rattle.vi_order.proofs.Lines.{IsAwaitable, awaited_lines, driver_part, driver_parts}
 use Rattle.vi_order.proofs.Backs.{at, Follows, after_last, line_upto, follows-due}
 use Rattle.vi_order.proofs.Drivers.{all_entered}

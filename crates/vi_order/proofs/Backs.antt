@@ -5,11 +5,11 @@ use Rattle.std.proofs.lemmas.Bool.{cases_Bool}
 use Rattle.std.proofs.lemmas.List.Elements.{filter-append}
 use Rattle.vi_history.specs.declared.call.Caller.TheVariants.{Back}
 use Rattle.vi_history.specs.declared.entry.Entry.{Entry}
-use Rattle.vi_script.specs.Value.{ScriptValue}
-use Rattle.vi_script.specs.Calls.{same_caller}
-use Rattle.vi_script.specs.Order.{entries_of, ends_block, Place, place_after, due_from, due_place, IsNext, AreDue}
-use Rattle.vi_script.specs.Ordered.{IsBlockFrom, AreBlocks}
-use Rattle.vi_script.proofs.IndexLemmas.{same_caller-eq, same_caller-self}
+use Rattle.vi_lines.specs.Value.{ScriptValue}
+use Rattle.vi_lines.specs.Calls.{same_caller}
+use Rattle.vi_lines.specs.Order.{entries_of, ends_block, Place, place_after, due_from, due_place, IsNext, AreDue}
+use Rattle.vi_lines.specs.Ordered.{IsBlockFrom, AreBlocks}
+use Rattle.vi_lines.proofs.IndexLemmas.{same_caller-eq, same_caller-self}
 
 abbrev pub at : ℕ → ℕ → Place
 at line part = record { line = line; part = part }

@@ -10,12 +10,12 @@ use Rattle.std.proofs.lemmas.List.Sums.{sum_by-cons, sum_by-append, sum_by_push,
 use Rattle.std.proofs.lemmas.List.Sorted.{sum_by-IsPermutation, IsNonDecreasingBy-short}
 use Rattle.vi_history.specs.declared.call.Caller.TheVariants.{Driver}
 use Rattle.vi_history.specs.declared.entry.Entry.{Entry}
-use Rattle.vi_script.specs.declared.line.Line.{Line}
-use Rattle.vi_script.specs.Value.{ScriptValue}
-use Rattle.vi_script.specs.Calls.{same_caller, lines_of, call_of}
-use Rattle.vi_script.specs.Order.{entries_of, entries_at, batch_of, IsNext, IsDue, AreDue}
-use Rattle.vi_script.specs.Ordered.{entered_lines, AreBatches}
-use Rattle.vi_script.proofs.IndexLemmas.{same_caller-eq, same_caller-self}
+use Rattle.vi_lines.specs.declared.line.Line.{Line}
+use Rattle.vi_lines.specs.Value.{ScriptValue}
+use Rattle.vi_lines.specs.Calls.{same_caller, lines_of, call_of}
+use Rattle.vi_lines.specs.Order.{entries_of, entries_at, batch_of, IsNext, IsDue, AreDue}
+use Rattle.vi_lines.specs.Ordered.{entered_lines, AreBatches}
+use Rattle.vi_lines.proofs.IndexLemmas.{same_caller-eq, same_caller-self}
 use Rattle.vi_order.proofs.Counts.{count, one_at, count-cons, count-range_below, count-range_above, count-range_within, permutation_by_count, rising-cons, above_rest, none_above}
 use Rattle.vi_order.proofs.Lines.{known_line}
 

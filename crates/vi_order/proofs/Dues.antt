@@ -1,8 +1,8 @@
 -- A history is in order so far exactly where each entry is due behind those before it.
 use Rattle.std.proofs.Common.{◌≡◌, List, [], ◌∷◌, ◌++◌, sym, subst, ◌∙◌, append_assoc, append-nil}
 use Rattle.vi_history.specs.declared.entry.Entry.{Entry}
-use Rattle.vi_script.specs.Value.{ScriptValue}
-use Rattle.vi_script.specs.Order.{IsDue, AreDue}
+use Rattle.vi_lines.specs.Value.{ScriptValue}
+use Rattle.vi_lines.specs.Order.{IsDue, AreDue}
 
 pub due_at : (s : ScriptValue) (before xs : List Entry) (h : Entry) (ys : List Entry) → AreDue s before (xs ++ h ∷ ys) → IsDue s (before ++ xs) h
 due_at s before [] h ys due = subst (λ b. IsDue s b h) (sym (append-nil before)) due.0

@@ -6,16 +6,16 @@ use Rattle.std.proofs.lemmas.List.Sums.{AllPass-from_list_all}
 use Rattle.std.proofs.lemmas.Option.{slice_get_past, slice_get_within, get_or_from_slice_get}
 use Rattle.vi_history.specs.declared.call.Caller.{Caller}
 use Rattle.vi_history.specs.declared.call.Caller.TheVariants.{Driver}
-use Rattle.vi_script.specs.declared.job.Job.{Job}
-use Rattle.vi_script.specs.declared.job.Job.TheVariants.{Ask, Raw, Bypass, Read, Write}
-use Rattle.vi_script.specs.declared.line.Line.{Line}
-use Rattle.vi_script.specs.declared.line.Await.{Await}
-use Rattle.vi_script.specs.Value.{ScriptValue}
-use Rattle.vi_script.specs.Valid.{IsValid, is_line, does, driver_does, is_caller_in, AwaitAbove}
-use Rattle.vi_script.specs.Limits.{is_job}
-use Rattle.vi_script.specs.Judging.{job_runs_over, awaits_well, count_lines}
-use Rattle.vi_script.specs.Calls.{same_caller, lines_of, line_of, parts_of, call_in, call_of, awaits_in, awaits_of, parts_in, part_count_of}
-use Rattle.vi_script.proofs.IndexLemmas.{same_caller-eq}
+use Rattle.vi_lines.specs.declared.job.Job.{Job}
+use Rattle.vi_lines.specs.declared.job.Job.TheVariants.{Ask, Raw, Bypass, Read, Write}
+use Rattle.vi_lines.specs.declared.line.Line.{Line}
+use Rattle.vi_lines.specs.declared.line.Await.{Await}
+use Rattle.vi_lines.specs.Value.{ScriptValue}
+use Rattle.vi_lines.specs.Valid.{IsValid, is_line, does, driver_does, is_caller_in, AwaitAbove}
+use Rattle.vi_lines.specs.Limits.{is_job}
+use Rattle.vi_lines.specs.Rules.{job_runs_over, awaits_well, count_lines}
+use Rattle.vi_lines.specs.Calls.{same_caller, lines_of, line_of, parts_of, call_in, call_of, awaits_in, awaits_of, parts_in, part_count_of}
+use Rattle.vi_lines.proofs.IndexLemmas.{same_caller-eq}
 
 -- ---- known calls
 

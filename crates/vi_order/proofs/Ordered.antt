@@ -4,11 +4,11 @@ use Rattle.std.proofs.Common.{◌≡◌, ◌+◌, suc, List, ◌∷◌, ◌++◌
 use Rattle.vi_history.specs.declared.call.Caller.{Caller}
 use Rattle.vi_history.specs.declared.call.Caller.TheVariants.{Driver, Back}
 use Rattle.vi_history.specs.declared.entry.Entry.{Entry}
-use Rattle.vi_script.specs.Value.{ScriptValue}
-use Rattle.vi_script.specs.Valid.{IsValid}
-use Rattle.vi_script.specs.Calls.{lines_of, call_of}
-use Rattle.vi_script.specs.Order.{IsNext, IsDue, AreDue, IsOrderedSoFar}
-use Rattle.vi_script.specs.Ordered.{IsOrdered}
+use Rattle.vi_lines.specs.Value.{ScriptValue}
+use Rattle.vi_lines.specs.Valid.{IsValid}
+use Rattle.vi_lines.specs.Calls.{lines_of, call_of}
+use Rattle.vi_lines.specs.Order.{IsNext, IsDue, AreDue, IsOrderedSoFar}
+use Rattle.vi_lines.specs.Ordered.{IsOrdered}
 use Rattle.vi_order.specs.Finished.{IsFinished}
 use Rattle.vi_order.specs.Laws.{IsOrderedOneByOne}
 use Rattle.vi_order.proofs.Lines.{known_line}

@@ -2,9 +2,9 @@
 use Rattle.std.specs.Prelude.{◌≡◌, ◌+◌, ◌<◌, ◌≤◌, ℕ, List, length}
 use Rattle.vi_history.specs.declared.call.Caller.TheVariants.{Driver, Back}
 use Rattle.vi_history.specs.declared.entry.Entry.{Entry}
-use Rattle.vi_script.specs.Value.{ScriptValue}
-use Rattle.vi_script.specs.Calls.{lines_of}
-use Rattle.vi_script.specs.Order.{entries_at, due_place}
+use Rattle.vi_lines.specs.Value.{ScriptValue}
+use Rattle.vi_lines.specs.Calls.{lines_of}
+use Rattle.vi_lines.specs.Order.{entries_at, due_place}
 
 -- No caller has a call left: each line of a driver has an entry, and each back end is behind its last line.
 pub record IsFinished (s : ScriptValue) (entries : List Entry) : Type 0 where

@@ -1,11 +1,11 @@
 -- What is known of every legal history, and of every one in order.
 use Rattle.std.specs.Prelude.{◌↔◌, List}
 use Rattle.vi_history.specs.declared.entry.Entry.{Entry}
-use Rattle.vi_script.specs.Value.{ScriptValue}
-use Rattle.vi_script.specs.Valid.{IsValid}
-use Rattle.vi_script.specs.Legal.{IsLegalHistory}
-use Rattle.vi_script.specs.Order.{IsOrderedSoFar}
-use Rattle.vi_script.specs.Ordered.{IsOrdered}
+use Rattle.vi_lines.specs.Value.{ScriptValue}
+use Rattle.vi_lines.specs.Valid.{IsValid}
+use Rattle.vi_lines.specs.Legal.{IsLegalHistory}
+use Rattle.vi_lines.specs.Order.{IsOrderedSoFar}
+use Rattle.vi_lines.specs.Ordered.{IsOrdered}
 use Rattle.vi_order.specs.Finished.{IsFinished}
 use Rattle.vi_order.specs.Unmapped.{FaultsBehindUnmaps}
 

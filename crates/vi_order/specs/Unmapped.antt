@@ -16,8 +16,8 @@ use Rattle.vi_history.specs.declared.entry.Kind.TheVariants as kind
 use Rattle.vi_history.specs.declared.request.Request.{Request}
 use Rattle.vi_history.specs.declared.request.Request.TheVariants.{Map, Unmap}
 use Rattle.vi_bytes.specs.declared.region.Membership.TheVariants.{Member}
-use Rattle.vi_script.specs.Value.{ScriptValue}
-use Rattle.vi_script.specs.Legal.{AreCalls}
+use Rattle.vi_lines.specs.Value.{ScriptValue}
+use Rattle.vi_lines.specs.Legal.{AreCalls}
 
 -- the request that these bytes ask
 abbrev pub asked_in : Reading → Option Request

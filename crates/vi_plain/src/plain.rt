@@ -130,6 +130,3 @@ impl Plain {
         }
     }
 }
-
-#[cfg(test)]
-mod tests;

@@ -7,6 +7,3 @@ mod removals;
 mod taking;
 
 pub use removals::{Ready, Removals};
-
-#[cfg(test)]
-mod tests;

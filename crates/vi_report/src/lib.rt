@@ -5,8 +5,6 @@ mod fault;
 mod line;
 mod reading;
 mod report;
-#[cfg(test)]
-mod tests;
 
 pub use fault::ReportFault;
 pub use line::{push_answer, push_name};

@@ -11,6 +11,3 @@ pub use asking::read;
 pub use encoding::encode;
 pub use reading::decode;
 pub use refusal::ReqFault;
-
-#[cfg(test)]
-mod tests;

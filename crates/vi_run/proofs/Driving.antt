@@ -1,8 +1,8 @@
 -- A driver's turn on the shared object.
 use Rattle.std.proofs.Common.{◌≡◌, ℕ, ◌<◌, cond, Option, Some, None, refl, sym, ap, subst, ◌∙◌}
 use Rattle.std.proofs.lemmas.Bool.{lt-ltb}
-use Rattle.vi_script.specs.declared.line.Who.TheVariants as who
-use Rattle.vi_script.specs.Value.{ScriptValue}
+use Rattle.vi_lines.specs.declared.line.Who.TheVariants as who
+use Rattle.vi_lines.specs.Value.{ScriptValue}
 use Rattle.vi_model.specs.Control.{Control, driver_count}
 use Rattle.vi_model.specs.Drivers.{Stand, Driven, driver_turn}
 use Rattle.vi_model.specs.Actors.{Actor, stand_in, driver_actor}

@@ -8,13 +8,13 @@ use Rattle.std.proofs.lemmas.List.Elements.{All-from_recursion, recursion_from_A
 use Rattle.std.proofs.lemmas.List.Folds.{fold-map}
 use Rattle.std.proofs.lemmas.List.Sums.{sum_by-cons}
 use Rattle.std.proofs.lemmas.Option.{slice_get_within}
-use Rattle.vi_history.specs.Logs.{Ticketed, LogValue, Stands, ticket_count, IsMerged}
+use Rattle.vi_log.specs.Logs.{Ticketed, LogValue, Stands, ticket_count, IsMerged}
 use Rattle.vi_history.specs.declared.entry.Entry.{Entry}
 use Rattle.vi_history.specs.declared.call.Caller.TheVariants.{Driver, Back}
-use Rattle.vi_script.specs.declared.line.Who.{Who}
-use Rattle.vi_script.specs.declared.line.Who.TheVariants as who
-use Rattle.vi_script.specs.Value.{ScriptValue}
-use Rattle.vi_script.specs.Calls.{lines_of}
+use Rattle.vi_lines.specs.declared.line.Who.{Who}
+use Rattle.vi_lines.specs.declared.line.Who.TheVariants as who
+use Rattle.vi_lines.specs.Value.{ScriptValue}
+use Rattle.vi_lines.specs.Calls.{lines_of}
 use Rattle.vi_model.specs.Control.{driver_count}
 use Rattle.vi_model.specs.Places.{place_count, id_at, back_at}
 use Rattle.vi_model.specs.Asking.{one_if}
@@ -25,7 +25,7 @@ use Rattle.vi_model.specs.Worlds.{World, stand_of, seat_of, actor_of}
 use Rattle.vi_model.specs.Rounds.{actors, has_lines, is_finished, is_driver_finished, is_back_finished}
 use Rattle.vi_model.specs.Playable.{IsPlayable}
 use Rattle.vi_model.specs.Sound.{IsSound}
-use Rattle.vi_model.proofs.Owns.{places_have_ids}
+use Rattle.vi_sound.proofs.Owns.{places_have_ids}
 use Rattle.vi_control.specs.Value.{ControlValue}
 use Rattle.vi_turns.specs.Ended.{of_entries, IsHistory, IsClosed}
 use Rattle.vi_turns.specs.Holding.{Taken, Last}

@@ -5,8 +5,8 @@ use Rattle.std.proofs.lemmas.List.{length-append}
 use Rattle.std.proofs.lemmas.List.Sums.{sum_by-cons, sum_by-append}
 use Rattle.std.proofs.lemmas.Option.{none-some, same_Some}
 use Rattle.vi_history.specs.declared.entry.Entry.{Entry}
-use Rattle.vi_history.specs.Logs.{Ticketed, Stands}
-use Rattle.vi_script.specs.Value.{ScriptValue}
+use Rattle.vi_log.specs.Logs.{Ticketed, Stands}
+use Rattle.vi_lines.specs.Value.{ScriptValue}
 use Rattle.vi_model.specs.Worlds.{World}
 use Rattle.vi_model.specs.Rounds.{calls_of}
 use Rattle.vi_model.specs.Sound.{IsSound}

@@ -7,14 +7,14 @@ use Rattle.vi_bytes.specs.declared.region.EndpointSetup.{EndpointSetup}
 use Rattle.std.proofs.lemmas.List.{length-append, length-map}
 use Rattle.std.proofs.lemmas.List.Elements.{All-nil, All-cons, All-append, All-map, All-filter, All-get_or, All-from_get_or}
 use Rattle.std.proofs.lemmas.Option.{none-some, same_Some, slice_get_within, get_or_from_slice_get}
-use Rattle.vi_script.specs.declared.line.Who.{Who}
-use Rattle.vi_script.specs.declared.line.Who.TheVariants as who
-use Rattle.vi_script.specs.Value.{ScriptValue}
+use Rattle.vi_lines.specs.declared.line.Who.{Who}
+use Rattle.vi_lines.specs.declared.line.Who.TheVariants as who
+use Rattle.vi_lines.specs.Value.{ScriptValue}
 use Rattle.vi_model.specs.Control.{driver_count}
 use Rattle.vi_model.specs.Places.{ids_of, id_at, place_count, place_in, place_of}
 use Rattle.vi_model.specs.Rounds.{has_lines, drivers_of, backs_of, actors}
 use Rattle.vi_model.specs.Playable.{IsPlayable}
-use Rattle.vi_model.proofs.Owns.{places_have_ids}
+use Rattle.vi_sound.proofs.Owns.{places_have_ids}
 use Rattle.vi_turns.specs.Views.{who_of}
 
 -- ---- standing in a list

@@ -4,11 +4,11 @@ use Rattle.std.specs.Prelude.{sum_by, nat_eq}
 use Rattle.std.specs.List.{position}
 use Rattle.vi_bytes.specs.declared.region.EndpointSetup.{EndpointSetup}
 use Rattle.std.proofs.lemmas.Option.{slice_get-get_or}
-use Rattle.vi_history.specs.Logs.{LogValue, Ticketed, no_entries}
-use Rattle.vi_script.specs.declared.line.Line.{Line}
-use Rattle.vi_script.specs.declared.line.Who.{Who}
-use Rattle.vi_script.specs.declared.line.Who.TheVariants as who
-use Rattle.vi_script.specs.Value.{ScriptValue}
+use Rattle.vi_log.specs.Logs.{LogValue, Ticketed, no_entries}
+use Rattle.vi_lines.specs.declared.line.Line.{Line}
+use Rattle.vi_lines.specs.declared.line.Who.{Who}
+use Rattle.vi_lines.specs.declared.line.Who.TheVariants as who
+use Rattle.vi_lines.specs.Value.{ScriptValue}
 use Rattle.vi_model.specs.Control.{driver_count}
 use Rattle.vi_model.specs.Places.{id_at, place_count, place_of}
 use Rattle.vi_model.specs.Drivers.{Stand, no_stand}
@@ -18,7 +18,7 @@ use Rattle.vi_model.specs.Worlds.{actor_of, opening}
 use Rattle.vi_model.specs.Rounds.{actors, calls_in, calls_of}
 use Rattle.vi_core.specs.HistoryRoom.{answer_bytes, bytes_of}
 use Rattle.vi_model.specs.Playable.{IsPlayable}
-use Rattle.vi_model.proofs.Laws.{opening_is_sound}
+use Rattle.vi_sound.proofs.Laws.{opening_is_sound}
 use Rattle.vi_driver.specs.Drivers.{OwnDriver, own_driver}
 use Rattle.vi_backend.specs.Own.{Own, IsOwn, IsBackOf}
 use Rattle.vi_turns.specs.Order.{IsPlaced}

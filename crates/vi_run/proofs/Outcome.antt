@@ -1,11 +1,11 @@
 -- What a run has come to.
 use Rattle.std.proofs.Common.{◌≡◌, ◌<◌, ◌^◌, ℕ, List, length, map, sym, ap, ap₂, ◌∙◌, subst}
-use Rattle.vi_history.specs.Logs.{IsMerged, AreTicketed}
+use Rattle.vi_log.specs.Logs.{IsMerged, AreTicketed}
 use Rattle.vi_history.specs.Outcomes.{IsWellMade}
 use Rattle.vi_history.specs.declared.entry.Entry.{Entry}
 use Rattle.vi_history.specs.declared.outcome.Outcome.{Outcome}
 use Rattle.vi_history.specs.declared.outcome.Shown.{Shown}
-use Rattle.vi_history.proofs.LogsMerging.{merged-once}
+use Rattle.vi_log.proofs.LogsMerging.{merged-once}
 use Rattle.vi_model.specs.Control.{Control}
 use Rattle.vi_core.specs.Outcomes.{fault_numbers, named_by}
 use Rattle.vi_core.proofs.OutcomeLaws.{outcome_made}

@@ -6,7 +6,7 @@ use Rattle.std.proofs.lemmas.List.{length-set, length-replicate}
 use Rattle.vi_bytes.specs.declared.lease.Need.TheVariants.{Write}
 use Rattle.vi_history.specs.Device.{One}
 use Rattle.vi_history.specs.Histories.{after}
-use Rattle.vi_history.specs.Logs.{Ticketed}
+use Rattle.vi_log.specs.Logs.{Ticketed}
 use Rattle.vi_history.specs.Replies.{memory_after_write, next}
 use Rattle.vi_history.specs.Start.{zero_page, start}
 use Rattle.vi_history.specs.Translation.{translate}
@@ -16,9 +16,9 @@ use Rattle.vi_history.specs.declared.entry.Entry.{Entry}
 use Rattle.vi_history.specs.declared.found.Found.{Found}
 use Rattle.vi_history.specs.declared.found.Found.TheVariants.{At, Fault}
 use Rattle.vi_history.specs.declared.setup.Setup.{Setup}
-use Rattle.vi_script.specs.declared.line.Who.{Who}
-use Rattle.vi_script.specs.declared.line.Who.TheVariants as who
-use Rattle.vi_script.specs.Value.{ScriptValue}
+use Rattle.vi_lines.specs.declared.line.Who.{Who}
+use Rattle.vi_lines.specs.declared.line.Who.TheVariants as who
+use Rattle.vi_lines.specs.Value.{ScriptValue}
 use Rattle.vi_model.specs.Places.{place_count, place_of}
 use Rattle.vi_model.specs.Playable.{IsPlayable}
 use Rattle.vi_model.specs.Backs.{Seat, Wish, Accesses, Asks, Receives, Rests, wish, target_of}
@@ -26,7 +26,7 @@ use Rattle.vi_model.specs.Actors.{Actor, seat_in, back_actor}
 use Rattle.vi_model.specs.Sound.{IsSound}
 use Rattle.vi_model.specs.Worlds.{World, actor_of}
 use Rattle.vi_model.specs.Turns.{AccessTurn, wished_page, wished_access, accessed_page, is_page, accesses, access_turn, made_entries, left_by_access}
-use Rattle.vi_model.proofs.Laws.{accesses_keep_sound}
+use Rattle.vi_sound.proofs.Laws.{accesses_keep_sound}
 use Rattle.vi_backend.specs.declared.wish.Done.{Done}
 use Rattle.vi_backend.specs.declared.wish.Wish.TheVariants as shows
 use Rattle.vi_backend.specs.Own.{Own, IsOwn, IsBackOf}
@@ -37,7 +37,7 @@ use Rattle.vi_core.specs.BackTurns.{IsBacksAccess, Reached}
 use Rattle.vi_core.specs.declared.turned.Turned.TheVariants.{Moved}
 use Rattle.vi_core.proofs.MovingBacks.{page_wished}
 use Rattle.vi_core.proofs.Needs.{wishes_access}
-use Rattle.vi_core.proofs.PageRoom.{page_room}
+use Rattle.vi_sound.proofs.PageRoom.{page_room}
 use Rattle.vi_turns.specs.Holding.{ThePage}
 use Rattle.vi_turns.specs.Views.{access_by, accesses_by, accesses_of, access_of, logged, won_page, stamped, gave_back}
 use Rattle.vi_turns.specs.Order.{IsSoundAt, IsPlaced}

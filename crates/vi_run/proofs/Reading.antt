@@ -1,8 +1,8 @@
 -- The event reader's turn on the shared object.
 use Rattle.std.proofs.Common.{◌≡◌, Bool, true, false, List, [], ◌∷◌, None, refl, sym, ap, subst, ◌∙◌}
 use Rattle.vi_history.specs.declared.outcome.Shown.{Shown}
-use Rattle.vi_script.specs.declared.line.Who.TheVariants as who
-use Rattle.vi_script.specs.Value.{ScriptValue}
+use Rattle.vi_lines.specs.declared.line.Who.TheVariants as who
+use Rattle.vi_lines.specs.Value.{ScriptValue}
 use Rattle.vi_model.specs.Control.{Control}
 use Rattle.vi_model.specs.Actors.{Actor, other_actor}
 use Rattle.vi_model.specs.Turns.{ControlTurn, event_read, control_turn, accessed_page}

@@ -3,15 +3,15 @@ use Rattle.std.proofs.Common.{◌≡◌, ℕ, ◌++◌, List, length, Option, So
 use Rattle.std.specs.Option.{option_map}
 use Rattle.vi_history.specs.declared.entry.Entry.{Entry}
 use Rattle.vi_history.specs.declared.entry.Mark.{Mark}
-use Rattle.vi_script.specs.declared.line.Who.TheVariants as who
-use Rattle.vi_script.specs.Value.{ScriptValue}
+use Rattle.vi_lines.specs.declared.line.Who.TheVariants as who
+use Rattle.vi_lines.specs.Value.{ScriptValue}
 use Rattle.vi_model.specs.Control.{Control}
 use Rattle.vi_model.specs.Places.{place_count}
 use Rattle.vi_model.specs.Device.{device_turn}
 use Rattle.vi_model.specs.Actors.{Actor, other_actor}
 use Rattle.vi_model.specs.Worlds.{World, actor_of}
 use Rattle.vi_model.specs.Turns.{ControlTurn, served, control_turn, accessed_page, made_entries, left_by}
-use Rattle.vi_model.proofs.Laws.{control_keeps_sound}
+use Rattle.vi_sound.proofs.Laws.{control_keeps_sound}
 use Rattle.vi_control.specs.Plan.{Plan, plan_of}
 use Rattle.vi_control.specs.Value.{ControlValue, entry_with}
 use Rattle.vi_control.specs.Rooms.{HasTurnRoom, HasRoom}

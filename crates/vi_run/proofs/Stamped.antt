@@ -1,8 +1,8 @@
 -- What a pass is once its actor's turn under the control is done, but for giving the control back.
 use Rattle.std.proofs.Common.{◌≡◌, ℕ, ◌+◌, ◌≤◌, ◌++◌, length, Option, Some, None, sym, ap, subst, ◌∙◌}
 use Rattle.vi_history.specs.declared.entry.Entry.{Entry}
-use Rattle.vi_history.specs.Logs.{Ticketed}
-use Rattle.vi_script.specs.declared.line.Who.{Who}
+use Rattle.vi_log.specs.Logs.{Ticketed}
+use Rattle.vi_lines.specs.declared.line.Who.{Who}
 use Rattle.vi_model.specs.Control.{Control}
 use Rattle.vi_control.specs.Plan.{plan_of}
 use Rattle.vi_control.specs.Value.{ControlValue}

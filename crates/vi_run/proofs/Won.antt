@@ -1,7 +1,7 @@
 -- What a pass whose actor takes a turn may do, and that it is the actor's turn.
 use Rattle.std.proofs.Common.{◌≡◌, ◌≢◌, ℕ, ◌≤◌, Option, Some, None, refl, sym, ap, ap₂, subst, ◌∙◌, inl}
 use Rattle.vi_history.specs.declared.entry.Entry.{Entry}
-use Rattle.vi_script.specs.declared.line.Who.{Who}
+use Rattle.vi_lines.specs.declared.line.Who.{Who}
 use Rattle.vi_model.specs.Control.{Control}
 use Rattle.vi_model.specs.Turns.{control_turn, accessed_page}
 use Rattle.vi_control.specs.Plan.{plan_of}

@@ -1,11 +1,11 @@
 -- What actors begin with.
 use Rattle.std.specs.Prelude.{◌≡◌, ◌<◌, ℕ}
-use Rattle.vi_script.specs.declared.line.Who.{Who}
-use Rattle.vi_script.specs.declared.line.Who.TheVariants as who
-use Rattle.vi_script.specs.Value.{ScriptValue}
+use Rattle.vi_lines.specs.declared.line.Who.{Who}
+use Rattle.vi_lines.specs.declared.line.Who.TheVariants as who
+use Rattle.vi_lines.specs.Value.{ScriptValue}
 use Rattle.vi_model.specs.Control.{driver_count}
 use Rattle.vi_model.specs.Places.{place_count, place_of}
-use Rattle.vi_history.specs.Logs.{LogValue}
+use Rattle.vi_log.specs.Logs.{LogValue}
 use Rattle.vi_model.specs.Rounds.{calls_of}
 use Rattle.vi_core.specs.HistoryRoom.{bytes_of}
 use Rattle.vi_model.specs.Drivers.{no_stand}

@@ -1,6 +1,6 @@
 -- A run before its first turn, and what it comes to.
 use Rattle.std.specs.Prelude.{◌≡◌, ℕ, ◌+◌, true, List, [], length, slice_get, Some, None}
-use Rattle.vi_history.specs.Logs.{LogValue, IsMerged}
+use Rattle.vi_log.specs.Logs.{LogValue, IsMerged}
 use Rattle.vi_history.specs.declared.outcome.Outcome.{Outcome}
 use Rattle.vi_model.specs.Worlds.{World}
 use Rattle.vi_model.specs.Rounds.{actors, is_finished}

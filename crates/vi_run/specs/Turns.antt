@@ -1,7 +1,7 @@
 -- What each kind of actor's turn keeps.
 use Rattle.std.specs.Prelude.{◌≡◌}
-use Rattle.vi_script.specs.declared.line.Who.{Who}
-use Rattle.vi_script.specs.declared.line.Who.TheVariants as who
+use Rattle.vi_lines.specs.declared.line.Who.{Who}
+use Rattle.vi_lines.specs.declared.line.Who.TheVariants as who
 use Rattle.vi_driver.specs.Drivers.{OwnDriver}
 use Rattle.vi_backend.specs.Own.{Own}
 use Rattle.vi_turns.specs.Passes.{PassValue}

@@ -11,7 +11,7 @@ use crate::reader::reader_turn;
 use crate::role::Role;
 use std::marker::Model;
 use vi_core::Gate;
-use vi_script::Who;
+use vi_lines::Who;
 use vi_turns::{Pass, Shared};
 
 /// A driver, a back end, the device or the event reader, with its pass of the shared object. Contracts see the pass and

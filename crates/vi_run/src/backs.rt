@@ -1,6 +1,6 @@
 //! A back end's turn on the shared object.
 ghost use Rattle.std.specs.Prelude.{◌≡◌, Some, None};
-ghost use Rattle.vi_script.specs.declared.line.Who.TheVariants as who;
+ghost use Rattle.vi_lines.specs.declared.line.Who.TheVariants as who;
 ghost use Rattle.vi_run.specs.Actors.{IsBack, IsIdle, IsPassOf};
 ghost use Rattle.vi_run.specs.Taking.{wished_of};
 ghost use Rattle.vi_run.specs.Turns.{HasTurned, back_with};
@@ -8,7 +8,7 @@ ghost use Rattle.vi_run.specs.Turns.{HasTurned, back_with};
 use crate::ran::Ran;
 use vi_backend::{Backend, Wish};
 use vi_core::{Gate, Point, Turned, converse, reach};
-use vi_script::Who;
+use vi_lines::Who;
 use vi_turns::{Pass, Shared};
 
 /// The turn of the back end at this place: an access, which takes its page alone, or a turn under the control.

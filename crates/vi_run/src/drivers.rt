@@ -1,6 +1,6 @@
 //! A driver's turn on the shared object.
 ghost use Rattle.std.specs.Prelude.{◌≡◌};
-ghost use Rattle.vi_script.specs.declared.line.Who.TheVariants as who;
+ghost use Rattle.vi_lines.specs.declared.line.Who.TheVariants as who;
 ghost use Rattle.vi_run.specs.Actors.{IsDriver, IsIdle, IsPassOf};
 ghost use Rattle.vi_run.specs.Turns.{HasTurned, driver_with};
 

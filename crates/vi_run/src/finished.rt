@@ -6,7 +6,8 @@ ghost use Rattle.vi_run.specs.Runs.{CameTo, IsRun};
 use std::alloc::{AllocError, Global};
 use std::marker::Model;
 use vi_core::outcome_of;
-use vi_history::{Log, Outcome, merge};
+use vi_history::Outcome;
+use vi_log::{Log, merge};
 use vi_turns::Closed;
 
 /// What a run has come to: its shared object as it was closed, and the logs of the passes that were joined. Contracts see

@@ -1,7 +1,7 @@
 //! A run before its first turn.
 ghost use Rattle.std.specs.Prelude.{◌≡◌, ◌==◌, ◌<◌, ◌≤◌, ℕ, [], length, Some, IfOk};
 ghost use Rattle.std.specs.List.{position};
-ghost use Rattle.vi_script.specs.declared.line.Who.TheVariants as who;
+ghost use Rattle.vi_lines.specs.declared.line.Who.TheVariants as who;
 ghost use Rattle.vi_model.specs.Places.{place_count, place_of};
 ghost use Rattle.vi_model.specs.Playable.{IsPlayable};
 ghost use Rattle.vi_model.specs.Rounds as rounds;
@@ -16,10 +16,11 @@ use std::marker::Model;
 use vi_backend::Backend;
 use vi_bytes::EndpointSetup;
 use vi_control::Control;
-use vi_core::{actors, byte_room, entry_room, pages_of};
+use vi_core::{actors, byte_room, entry_room};
 use vi_driver::Driver;
-use vi_history::Log;
-use vi_script::{Script, Who};
+use vi_lines::{Script, Who};
+use vi_log::Log;
+use vi_memory::zero_pages;
 use vi_turns::{Pass, Shared};
 
 /// All that a run needs: the shared object with its first pass, and the actors of the script. Contracts see these.
@@ -51,7 +52,7 @@ impl Opened {
         ensures { IfOk result (λ o. o.board.script ≡ script) }
     {
         let control = Control::build(alloc, &script)?;
-        let pages = pages_of(alloc, script.setup.memory)?;
+        let pages = zero_pages(alloc, script.setup.memory)?;
         let log = Log::with_room(alloc, 0, 0)?;
         let (shared, mut pass) = Shared::build(alloc, &script, control, pages, log)?;
         let round = actors(alloc, &script)?;

@@ -1,5 +1,5 @@
 //! The event reader's turn on the shared object.
-ghost use Rattle.vi_script.specs.declared.line.Who.TheVariants as who;
+ghost use Rattle.vi_lines.specs.declared.line.Who.TheVariants as who;
 ghost use Rattle.vi_run.specs.Actors.{IsIdle, IsPassOf, IsReader};
 ghost use Rattle.vi_run.specs.Turns.{HasTurned, reader_with};
 

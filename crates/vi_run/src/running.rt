@@ -12,7 +12,7 @@ use crate::waiting::{Round, Waiting};
 use std::sync::Wait;
 use std::thread::{Threads, for_each_chunk_mut};
 use vi_core::{Gate, Turned};
-use vi_history::Log;
+use vi_log::Log;
 use vi_turns::{Pass, Shared};
 
 /// How many turns a worker takes at most until all workers meet.

@@ -1,7 +1,7 @@
 //! Turns of actors on the shared object, one beside another, as a caller with threads of its own takes them: an actor meets what
 //! another one has, or finds what it left.
 ghost use Rattle.std.specs.Prelude.{◌≡◌, ◌<◌, length, IfSome, Some};
-ghost use Rattle.vi_script.specs.declared.line.Who.TheVariants as who;
+ghost use Rattle.vi_lines.specs.declared.line.Who.TheVariants as who;
 ghost use Rattle.vi_run.specs.Actors.{IsBack, IsDriver, IsIdle, IsPassOf};
 ghost use Rattle.vi_run.specs.Runs.{AreActors, IsActorAt, IsSame};
 ghost use Rattle.vi_run.specs.Taking.{wished_of};
@@ -192,7 +192,7 @@ fn come_to_accesses(shared: &Shared, actors: &mut Vec<Actor>)
 
 #[test]
 fn the_device_finds_the_driver_at_the_control(rt: HostRuntime) -> Result<(), Fail> {
-    vi_model::valid_is_playable();
+    vi_sound::valid_is_playable();
     let Ok(script) = vi_script::parse(rt.alloc(), ONE_BACK_END) else {
         panic!(rt; "the script is accepted")
     };
@@ -224,7 +224,7 @@ fn the_device_finds_the_driver_at_the_control(rt: HostRuntime) -> Result<(), Fai
 
 #[test]
 fn the_second_back_end_reads_what_the_first_wrote(rt: HostRuntime) -> Result<(), Fail> {
-    vi_model::valid_is_playable();
+    vi_sound::valid_is_playable();
     let Ok(script) = vi_script::parse(rt.alloc(), TWO_BACK_ENDS) else {
         panic!(rt; "the script is accepted")
     };

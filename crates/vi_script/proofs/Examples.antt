@@ -6,7 +6,7 @@ use Rattle.vi_words.specs.Words.{lines_of_text, words_of}
 use Rattle.vi_words.specs.Numbers.{number_of, digits_in, name_number_of, hex_of}
 use Rattle.vi_script.specs.declared.fault.BadKind.{BadKind}
 use Rattle.vi_script.specs.declared.fault.BadKind.TheVariants.{Byte, Word, Late, Number, Hex, Again, Endpoint, Span, Limit, After}
-use Rattle.vi_script.specs.declared.job.Job.TheVariants.{Ask, Read, Write}
+use Rattle.vi_lines.specs.declared.job.Job.TheVariants.{Ask, Read, Write}
 use Rattle.vi_script.specs.Forms.{form_of, await_of}
 use Rattle.vi_script.specs.Said.{script_of, setup_of}
 use Rattle.vi_script.specs.Texts.{script, judge, Bad}

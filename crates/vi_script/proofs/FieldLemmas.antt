@@ -1,9 +1,10 @@
 -- The requests of what was said fit their fields, if each statement's does.
 use Rattle.std.proofs.Common.{List, [], ◌∷◌, ◌++◌}
-use Rattle.vi_script.specs.declared.line.Line.{Line}
+use Rattle.vi_lines.specs.declared.line.Line.{Line}
 use Rattle.vi_script.specs.Statements.{Statement, Memory, Queue, Cache, Granule, Input, Bypass, Events, Endpoint, Reserve, Turns, Actor}
 use Rattle.vi_script.specs.Said.{Said, says, script_of}
-use Rattle.vi_script.specs.Fields.{JobFits, LinesFit, HasFields, StatementFits}
+use Rattle.vi_lines.specs.Fields.{JobFits, LinesFit, HasFields}
+use Rattle.vi_script.specs.Fitting.{StatementFits}
 
 LinesFit-push : (lines : List Line) (l : Line) → LinesFit lines → JobFits l.job → LinesFit (lines ++ l ∷ [])
 LinesFit-push [] l all new = (new, tt)

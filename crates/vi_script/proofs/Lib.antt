@@ -1,5 +1,4 @@
 mod Examples
-pub mod IndexLemmas
 pub mod ReadLemmas
 pub mod NameLemmas
 pub mod TallyLemmas
@@ -7,5 +6,4 @@ pub mod ReadingLemmas
 pub mod FormLemmas
 pub mod ValidLemmas
 pub mod SoundLemmas
-pub mod TransferLemmas
 pub mod FieldLemmas

@@ -13,9 +13,10 @@ use Rattle.vi_script.specs.declared.name.Name.TheVariants as name
 use Rattle.vi_script.specs.declared.name.TurnName.TheVariants as turn
 use Rattle.vi_script.specs.Forms.{turn_of_caller}
 use Rattle.vi_script.specs.Tallies.{is_caller}
-use Rattle.vi_script.specs.declared.line.Line.{Line}
-use Rattle.vi_script.specs.Judging.{turn_is_declared, turn_is_driver, awaits_well}
-use Rattle.vi_script.specs.Limits.{is_driver}
+use Rattle.vi_lines.specs.declared.line.Line.{Line}
+use Rattle.vi_lines.specs.Rules.{awaits_well}
+use Rattle.vi_script.specs.Judging.{turn_is_declared, turn_is_driver}
+use Rattle.vi_lines.specs.Limits.{is_driver}
 use Rattle.vi_script.specs.Said.{Said}
 use Rattle.vi_script.specs.Statements.{fits, await_fits, turn_fits}
 

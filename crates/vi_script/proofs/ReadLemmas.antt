@@ -6,7 +6,7 @@ use Rattle.std.proofs.lemmas.List.{drop_all}
 use Rattle.vi_history.specs.declared.call.Caller.{Caller}
 use Rattle.vi_words.specs.Numbers.{name_number_of, digits_in}
 use Rattle.vi_words.proofs.WordLemmas.{position_or_len-found, position_or_len-none}
-use Rattle.vi_script.specs.declared.line.Await.{Await}
+use Rattle.vi_lines.specs.declared.line.Await.{Await}
 use Rattle.vi_script.specs.declared.fault.Refusal.{Refusal}
 use Rattle.vi_script.specs.declared.fault.Refusal.TheVariants as refusal
 use Rattle.vi_script.specs.Faults.{Refuses}

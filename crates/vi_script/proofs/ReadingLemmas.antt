@@ -3,11 +3,11 @@ use Rattle.std.proofs.Common.{◌≡◌, ℕ, ◌+◌, ◌≤◌, true, List, []
 use Rattle.std.specs.Prelude.{nat_lt}
 use Rattle.std.proofs.lemmas.Bool.{cases_Bool, ltb-false, not-false, or_parts}
 use Rattle.vi_words.specs.Words.{lines_of_text}
-use Rattle.vi_script.specs.declared.line.Line.{Line}
+use Rattle.vi_lines.specs.declared.line.Line.{Line}
 use Rattle.vi_script.specs.declared.fault.Refusal.{Refusal}
 use Rattle.vi_script.specs.declared.fault.Refusal.TheVariants as refusal
 use Rattle.vi_script.specs.Faults.{Reads}
-use Rattle.vi_script.specs.Value.{ScriptValue}
+use Rattle.vi_lines.specs.Value.{ScriptValue}
 use Rattle.vi_script.specs.Statements.{Statement, Memory, Queue, Cache, Granule, Input, Bypass, Events, Endpoint, Reserve, Turns, Actor}
 use Rattle.vi_script.specs.Said.{Said, says, nothing_said, script_of}
 use Rattle.vi_script.specs.declared.fault.BadKind.TheVariants as bad

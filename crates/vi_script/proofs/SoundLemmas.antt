@@ -11,16 +11,17 @@ use Rattle.vi_bytes.specs.declared.region.EndpointSetup.{EndpointSetup}
 use Rattle.vi_words.specs.Words.{lines_of_text, words_of, says_nothing, has_bad_byte}
 use Rattle.vi_script.specs.declared.fault.BadKind.{BadKind}
 use Rattle.vi_script.specs.declared.fault.BadKind.TheVariants as bad
-use Rattle.vi_script.specs.declared.line.Line.{Line}
-use Rattle.vi_script.specs.declared.line.Who.{Who}
-use Rattle.vi_script.specs.Value.{ScriptValue}
+use Rattle.vi_lines.specs.declared.line.Line.{Line}
+use Rattle.vi_lines.specs.declared.line.Who.{Who}
+use Rattle.vi_lines.specs.Value.{ScriptValue}
 use Rattle.vi_script.specs.Forms.{Form, SetsMemory, SetsQueue, SetsCache, SetsGranule, SetsInput, StartsBypass, StartsEvents, DeclaresEndpoint, Reserves, TakesTurns, Acts, form_of}
-use Rattle.vi_script.specs.Judging.{is_late, is_again, is_undeclared, has_bad_span, is_beyond, is_within, awaits_badly, taken, has_actors, has_regions, declares, regions_of, is_declared, turn_is_declared, awaits_well}
-use Rattle.vi_script.specs.Limits.{bytes_in, transferred}
+use Rattle.vi_lines.specs.Rules.{awaits_well}
+use Rattle.vi_script.specs.Judging.{is_late, is_again, is_undeclared, has_bad_span, is_beyond, is_within, awaits_badly, taken, has_actors, has_regions, declares, regions_of, is_declared, turn_is_declared}
+use Rattle.vi_lines.specs.Limits.{bytes_in, transferred}
 use Rattle.vi_script.specs.Said.{Said, nothing_said, says, setup_of, script_of, granule_of}
 use Rattle.vi_script.specs.Statements.{Statement, Memory, Queue, Cache, Granule, Input, Bypass, Events, Endpoint, Reserve, Turns, Actor, statement_of, number_at, id_at, span_at, turn_fits, line_with, ◌>>=◌}
 use Rattle.vi_script.specs.Texts.{Bad, judge_words, judge, judged, said_from, script_from, script}
-use Rattle.vi_script.specs.Valid.{IsValid, is_turn_in, does}
+use Rattle.vi_lines.specs.Valid.{IsValid, is_turn_in, does}
 use Rattle.vi_script.proofs.FormLemmas.{Passes, Succeeds, form_fits, form_of-fits, statement_fits, statement_of-fits}
 use Rattle.vi_script.proofs.ReadingLemmas.{says_lines}
 use Rattle.vi_script.proofs.ValidLemmas.{endpoints_push, endpoints_reserved, length-reserved, without_regions, turns_push, turns_reserved, taken_turns, fits, taken_line, lines_push, all_awaits_push}

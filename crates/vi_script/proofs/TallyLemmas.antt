@@ -10,15 +10,15 @@ use Rattle.std.proofs.lemmas.List.Sums.{sum_by_push, sum-map}
 use Rattle.std.proofs.lemmas.List.{append-nil}
 use Rattle.vi_history.specs.declared.call.Caller.{Caller}
 use Rattle.vi_history.specs.declared.call.Caller.TheVariants.{Driver, Back}
-use Rattle.vi_script.specs.declared.line.Line.{Line}
-use Rattle.vi_script.specs.declared.index.Row.{Row}
+use Rattle.vi_lines.specs.declared.line.Line.{Line}
+use Rattle.vi_lines.specs.declared.index.Row.{Row}
 use Rattle.vi_script.specs.declared.tally.Batch.{Batch}
-use Rattle.vi_script.specs.Calls.{same_caller}
-use Rattle.vi_script.specs.Index.{row_places, added, places_from, AreRows}
-use Rattle.vi_script.specs.Judging.{count_lines}
-use Rattle.vi_script.specs.Limits.{transferred, bytes_in, is_driver, longest_batch_from, open_calls}
+use Rattle.vi_lines.specs.Calls.{same_caller}
+use Rattle.vi_lines.specs.Index.{row_places, added, places_from, AreRows}
+use Rattle.vi_lines.specs.Rules.{count_lines}
+use Rattle.vi_lines.specs.Limits.{transferred, bytes_in, is_driver, longest_batch_from, open_calls}
 use Rattle.vi_script.specs.Tallies.{open_batch_from, batch_of, table, grown, grown_table, no_batch, is_caller, have_callers}
-use Rattle.vi_script.proofs.IndexLemmas.{same_caller-eq, places_from_push, length-places_from, length-filter-le}
+use Rattle.vi_lines.proofs.IndexLemmas.{same_caller-eq, places_from_push, length-places_from, length-filter-le}
 
 pub AreRows_push : (lines : List Line) (l : Line) (old new : List Row) (place : ℕ) → AreRows lines old → place ≡ length lines
     → ((c : Caller) → row_places c new ≡ row_places c old ++ added l.caller place c) → AreRows (lines ++ l ∷ []) new

@@ -11,13 +11,14 @@ use Rattle.vi_bytes.specs.declared.region.Region.{Region}
 use Rattle.vi_bytes.specs.declared.region.EndpointSetup.{EndpointSetup}
 use Rattle.vi_history.specs.declared.call.Caller.{Caller}
 use Rattle.vi_history.specs.declared.call.Caller.TheVariants.{Driver, Back}
-use Rattle.vi_script.specs.declared.line.Line.{Line}
-use Rattle.vi_script.specs.declared.line.Who.{Who}
-use Rattle.vi_script.specs.declared.line.Who.TheVariants as who
-use Rattle.vi_script.specs.Judging.{is_declared, turn_is_declared, turn_is_driver, regions_in, is_aligned, is_bad_region, job_runs_over, line_fits, awaits_well}
-use Rattle.vi_script.specs.Limits.{is_job, is_driver, bytes_in, transferred, open_calls}
+use Rattle.vi_lines.specs.declared.line.Line.{Line}
+use Rattle.vi_lines.specs.declared.line.Who.{Who}
+use Rattle.vi_lines.specs.declared.line.Who.TheVariants as who
+use Rattle.vi_lines.specs.Rules.{is_aligned, job_runs_over, awaits_well}
+use Rattle.vi_script.specs.Judging.{is_declared, turn_is_declared, turn_is_driver, regions_in, is_bad_region, line_fits}
+use Rattle.vi_lines.specs.Limits.{is_job, is_driver, bytes_in, transferred, open_calls}
 use Rattle.vi_script.specs.Said.{Said, reserved_if, declared_endpoint}
-use Rattle.vi_script.specs.Valid.{is_region, AreDisjoint, IsEndpoint, has_endpoint, AreEndpoints, is_caller_in, is_turn_in, does, is_line, AwaitAbove}
+use Rattle.vi_lines.specs.Valid.{is_region, AreDisjoint, IsEndpoint, has_endpoint, AreEndpoints, is_caller_in, is_turn_in, does, is_line, AwaitAbove}
 
 -- regions, with one more at the end
 disjoint_push : (rs : List Region) (r : Region) → AreDisjoint rs → list_any (λ q. meets q.span r.span) rs ≡ false → AreDisjoint (rs ++ r ∷ [])

@@ -7,7 +7,7 @@ use Rattle.vi_script.specs.declared.form.Setting.TheVariants as setting
 use Rattle.vi_script.specs.declared.form.Switch.{Switch}
 use Rattle.vi_script.specs.declared.form.Switch.TheVariants as switch
 use Rattle.vi_script.specs.declared.settings.Settings.{Settings}
-use Rattle.vi_script.specs.Limits.{is_memory, is_queue, is_cache, is_granule}
+use Rattle.vi_lines.specs.Limits.{is_memory, is_queue, is_cache, is_granule}
 
 -- a setting was given
 abbrev pub is_set : Setting → Settings → Bool

@@ -7,9 +7,9 @@ use Rattle.vi_history.specs.declared.call.Caller.{Caller}
 use Rattle.vi_history.specs.declared.call.Caller.TheVariants.{Driver, Back}
 use Rattle.vi_words.specs.Numbers.{name_number_of}
 use Rattle.vi_words.specs.Words.{is_word}
-use Rattle.vi_script.specs.declared.line.Await.{Await}
-use Rattle.vi_script.specs.declared.line.Who.{Who}
-use Rattle.vi_script.specs.declared.line.Who.TheVariants as who
+use Rattle.vi_lines.specs.declared.line.Await.{Await}
+use Rattle.vi_lines.specs.declared.line.Who.{Who}
+use Rattle.vi_lines.specs.declared.line.Who.TheVariants as who
 
 -- go on with a value, if there is one
 infixl 10 ◌>>=◌

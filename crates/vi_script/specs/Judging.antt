@@ -9,15 +9,16 @@ use Rattle.vi_history.specs.declared.call.Caller.{Caller}
 use Rattle.vi_history.specs.declared.call.Caller.TheVariants.{Driver, Back}
 use Rattle.vi_script.specs.declared.fault.BadKind.{BadKind}
 use Rattle.vi_script.specs.declared.fault.BadKind.TheVariants as bad
-use Rattle.vi_script.specs.declared.job.Job.{Job}
-use Rattle.vi_script.specs.declared.job.Job.TheVariants as job
-use Rattle.vi_script.specs.declared.line.Line.{Line}
-use Rattle.vi_script.specs.declared.line.Await.{Await}
-use Rattle.vi_script.specs.declared.line.Who.{Who}
-use Rattle.vi_script.specs.declared.line.Who.TheVariants as who
-use Rattle.vi_script.specs.Calls.{same_caller}
+use Rattle.vi_lines.specs.declared.job.Job.{Job}
+use Rattle.vi_lines.specs.declared.job.Job.TheVariants as job
+use Rattle.vi_lines.specs.declared.line.Line.{Line}
+use Rattle.vi_lines.specs.declared.line.Await.{Await}
+use Rattle.vi_lines.specs.declared.line.Who.{Who}
+use Rattle.vi_lines.specs.declared.line.Who.TheVariants as who
+use Rattle.vi_lines.specs.Calls.{same_caller}
 use Rattle.vi_script.specs.Forms.{Form, SetsGranule, Acts}
-use Rattle.vi_script.specs.Limits.{is_memory, is_queue, is_cache, is_granule, is_length, is_job, is_driver, transferred, bytes_in, open_calls}
+use Rattle.vi_lines.specs.Limits.{is_memory, is_queue, is_cache, is_granule, is_length, is_job, is_driver, transferred, bytes_in, open_calls}
+use Rattle.vi_lines.specs.Rules.{is_aligned, job_runs_over, awaits_well}
 use Rattle.vi_script.specs.Said.{Said, granule_of}
 use Rattle.vi_script.specs.Statements.{Statement, Memory, Queue, Cache, Granule, Input, Bypass, Events, Endpoint, Reserve, Turns, Actor}
 
@@ -76,25 +77,10 @@ regions_in (Some e) = e.regions
 abbrev pub regions_of : Said → ℕ → List Region
 regions_of above id = regions_in (find (λ e. e.id == id) above.endpoints)
 
--- the span is whole granules
-abbrev pub is_aligned : ℕ → Span → Bool
-is_aligned granule span = (span.first % granule == 0) && ((span.last + 1) % granule == 0)
-
 -- a region is empty, isn't whole granules, or meets another one
 abbrev pub is_bad_region : ℕ → List Region → Span → Bool
 is_bad_region granule regions span =
     nat_lt span.last span.first || (not (is_aligned granule span) || list_any (λ r. meets r.span span) regions)
-
--- a transfer of so many bytes passes the last address; a number of bytes that is beyond its limit isn't tested
-abbrev pub runs_over : ℕ → ℕ → Bool
-runs_over iova len = is_length len && nat_lt (2 ^ 64) (iova + len)
-
-abbrev pub job_runs_over : Job → Bool
-job_runs_over (job.Ask request) = false
-job_runs_over (job.Raw read write) = false
-job_runs_over (job.Bypass on) = false
-job_runs_over (job.Read iova len) = runs_over iova len
-job_runs_over (job.Write iova bytes) = runs_over iova (length bytes)
 
 -- Span: an input range is empty, a region is bad, or a transfer passes the last address
 abbrev pub has_bad_span : Said → Statement → Bool
@@ -132,14 +118,6 @@ is_within above _ = true
 -- Limit: the statement or its line is beyond a limit; a text has at most 10,000 lines
 abbrev pub is_beyond : Said → ℕ → Statement → Bool
 is_beyond above number s = nat_lt 10000 number || not (is_within above s)
-
--- how many lines of a caller there are
-abbrev pub count_lines : List Line → Caller → ℕ
-count_lines lines caller = length (filter (λ l. same_caller l.caller caller) lines)
-
--- the awaited line is above, and of another caller
-abbrev pub awaits_well : List Line → Caller → Await → Bool
-awaits_well lines caller a = not (same_caller a.caller caller) && (nat_le 1 a.line && nat_le a.line (count_lines lines a.caller))
 
 -- After: an awaited line isn't above, or is of the same caller
 abbrev pub awaits_badly : Said → Statement → Bool

@@ -2,9 +2,9 @@
 use Rattle.std.specs.Prelude.{min, List, map}
 use Rattle.vi_history.specs.declared.call.Caller.{Caller}
 use Rattle.vi_history.specs.declared.call.Caller.TheVariants.{Driver, Back}
-use Rattle.vi_script.specs.declared.line.Await.{Await}
-use Rattle.vi_script.specs.declared.line.Who.{Who}
-use Rattle.vi_script.specs.declared.line.Who.TheVariants as who
+use Rattle.vi_lines.specs.declared.line.Await.{Await}
+use Rattle.vi_lines.specs.declared.line.Who.{Who}
+use Rattle.vi_lines.specs.declared.line.Who.TheVariants as who
 use Rattle.vi_script.specs.declared.name.Name.{Name}
 use Rattle.vi_script.specs.declared.name.Name.TheVariants as name
 use Rattle.vi_script.specs.declared.name.AwaitedName.{AwaitedName}

@@ -4,7 +4,7 @@ use Rattle.vi_script.specs.declared.fault.Refusal.{Refusal}
 use Rattle.vi_script.specs.declared.fault.Refusal.TheVariants as refusal
 use Rattle.vi_script.specs.declared.fault.ScriptFault.{ScriptFault}
 use Rattle.vi_script.specs.declared.fault.ScriptFault.TheVariants as fault
-use Rattle.vi_script.specs.Value.{ScriptValue}
+use Rattle.vi_lines.specs.Value.{ScriptValue}
 use Rattle.vi_script.specs.Texts.{Bad}
 
 -- a refusal of the line of this number

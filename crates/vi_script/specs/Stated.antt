@@ -1,9 +1,9 @@
 -- Statements as the reader of a text keeps them.
 use Rattle.std.specs.Prelude.{◌≡◌, ℕ, Bool, true}
 use Rattle.std.specs.List.{list_all}
-use Rattle.vi_script.specs.declared.job.Job.{Job}
-use Rattle.vi_script.specs.declared.job.Job.TheVariants as job
-use Rattle.vi_script.specs.declared.line.Line.{Line}
+use Rattle.vi_lines.specs.declared.job.Job.{Job}
+use Rattle.vi_lines.specs.declared.job.Job.TheVariants as job
+use Rattle.vi_lines.specs.declared.line.Line.{Line}
 use Rattle.vi_script.specs.declared.form.Setting.{Setting}
 use Rattle.vi_script.specs.declared.form.Setting.TheVariants as setting
 use Rattle.vi_script.specs.declared.form.Switch.{Switch}

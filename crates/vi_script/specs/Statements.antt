@@ -10,12 +10,12 @@ use Rattle.vi_words.specs.Numbers.{number_of, hex_of}
 use Rattle.vi_words.specs.Words.{is_word}
 use Rattle.vi_script.specs.declared.fault.BadKind.{BadKind}
 use Rattle.vi_script.specs.declared.fault.BadKind.TheVariants as bad
-use Rattle.vi_script.specs.declared.job.Job.{Job}
-use Rattle.vi_script.specs.declared.job.Job.TheVariants as job
-use Rattle.vi_script.specs.declared.line.Line.{Line}
-use Rattle.vi_script.specs.declared.line.Await.{Await}
-use Rattle.vi_script.specs.declared.line.Who.{Who}
-use Rattle.vi_script.specs.declared.line.Who.TheVariants as who
+use Rattle.vi_lines.specs.declared.job.Job.{Job}
+use Rattle.vi_lines.specs.declared.job.Job.TheVariants as job
+use Rattle.vi_lines.specs.declared.line.Line.{Line}
+use Rattle.vi_lines.specs.declared.line.Await.{Await}
+use Rattle.vi_lines.specs.declared.line.Who.{Who}
+use Rattle.vi_lines.specs.declared.line.Who.TheVariants as who
 use Rattle.vi_script.specs.Forms.{Act, Form, SetsMemory, SetsQueue, SetsCache, SetsGranule, SetsInput, StartsBypass, StartsEvents, DeclaresEndpoint, Reserves, TakesTurns, Acts, Deed, Attaches, Detaches, Maps, Unmaps, Probes, SetsBypass, SendsRaw, Reads, Writes}
 
 -- a statement of a script

@@ -3,12 +3,12 @@ use Rattle.std.specs.Prelude.{◌≡◌, ℕ, ◌+◌, max, ◌≤◌, nat_le, n
 use Rattle.std.specs.List.{list_all, range_with_len}
 use Rattle.vi_history.specs.declared.call.Caller.{Caller}
 use Rattle.vi_history.specs.declared.call.Caller.TheVariants.{Driver, Back}
-use Rattle.vi_script.specs.declared.line.Line.{Line}
+use Rattle.vi_lines.specs.declared.line.Line.{Line}
 use Rattle.vi_script.specs.declared.tally.Batch.{Batch}
 use Rattle.vi_script.specs.declared.tally.Tally.TheInside.{Inside}
-use Rattle.vi_script.specs.Calls.{same_caller}
-use Rattle.vi_script.specs.Index.{AreRows}
-use Rattle.vi_script.specs.Limits.{bytes_in, longest_batch}
+use Rattle.vi_lines.specs.Calls.{same_caller}
+use Rattle.vi_lines.specs.Index.{AreRows}
+use Rattle.vi_lines.specs.Limits.{bytes_in, longest_batch}
 
 -- how many lines the open batch has behind so many and these
 abbrev pub open_batch_from : ℕ → List Line → ℕ

@@ -3,7 +3,7 @@ use Rattle.std.specs.Prelude.{ℕ, ◌+◌, nat_lt, if◌then◌else◌, List, [
 use Rattle.vi_script.specs.declared.fault.BadKind.{BadKind}
 use Rattle.vi_script.specs.declared.fault.BadKind.TheVariants as bad
 use Rattle.vi_words.specs.Words.{lines_of_text, words_of, says_nothing, has_bad_byte}
-use Rattle.vi_script.specs.Value.{ScriptValue}
+use Rattle.vi_lines.specs.Value.{ScriptValue}
 use Rattle.vi_script.specs.Forms.{Form, form_of}
 use Rattle.vi_script.specs.Statements.{statement_of, ◌>>=◌}
 use Rattle.vi_script.specs.Said.{Said, nothing_said, says, script_of}

@@ -5,8 +5,9 @@ ghost use Rattle.std.specs.Option.{option_copied};
 ghost use Rattle.vi_bytes.specs.Spans.{meets};
 ghost use Rattle.vi_script.specs.Formed.{formed};
 ghost use Rattle.vi_script.specs.Faults.{Reads};
-ghost use Rattle.vi_script.specs.Judging.{is_late, is_again, is_undeclared, has_bad_span, is_within, awaits_badly, taken, declares, has_regions, regions_of, is_bad_region, is_aligned, is_declared, turn_is_declared, turn_is_driver, job_runs_over, runs_over, line_fits, awaits_well};
-ghost use Rattle.vi_script.specs.Limits.{is_job, is_length, is_driver, transferred};
+ghost use Rattle.vi_lines.specs.Rules.{is_aligned, job_runs_over, runs_over, awaits_well};
+ghost use Rattle.vi_script.specs.Judging.{is_late, is_again, is_undeclared, has_bad_span, is_within, awaits_badly, taken, declares, has_regions, regions_of, is_bad_region, is_declared, turn_is_declared, turn_is_driver, line_fits};
+ghost use Rattle.vi_lines.specs.Limits.{is_job, is_length, is_driver, transferred};
 ghost use Rattle.vi_script.specs.Names.{named, awaited, turned, all_awaited, all_turned, await_kept, turn_kept, caller_kept};
 ghost use Rattle.vi_script.specs.Said.{nothing_said, says, script_of, reserved_if};
 ghost use Rattle.vi_script.specs.Statements.{Input, Endpoint, Reserve, Turns, Actor, turn_fits};
@@ -18,10 +19,10 @@ use crate::name::{AwaitedName, Name, TurnName};
 use crate::settings::{Settings, setting_fits};
 use crate::statement::{ActorLine, JobNumbers, Parsed};
 use crate::tally::Tally;
-use crate::{Await, Job, Line, Script, Who};
 use std::alloc::{AllocError, Global};
 use std::marker::Model;
 use vi_bytes::{EndpointSetup, Items, Region, Span};
+use vi_lines::{Await, Job, Line, Script, Who};
 
 /// The most lines of a text, those that say nothing included.
 pub const MOST_LINES: u32 = 10_000;

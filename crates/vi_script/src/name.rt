@@ -4,13 +4,13 @@ ghost use Rattle.vi_words.specs.Numbers.{name_number_of};
 ghost use Rattle.vi_script.specs.Faults.{Finds};
 ghost use Rattle.vi_script.specs.Forms.{caller_of, await_of, turn_of};
 ghost use Rattle.vi_script.specs.Judging.{turn_is_driver};
-ghost use Rattle.vi_script.specs.Limits.{is_driver};
+ghost use Rattle.vi_lines.specs.Limits.{is_driver};
 ghost use Rattle.vi_script.specs.Names.{named, awaited, turned, caller_kept, await_kept, turn_kept};
 ghost use Rattle.vi_script.specs.Statements.{fits, await_fits, turn_fits};
 
 use crate::fault::{BadKind, Refusal};
-use crate::{Await, Who};
 use vi_history::Caller;
+use vi_lines::{Await, Who};
 use vi_words::{first_such, is_word, name_number};
 
 /// The name of a caller. A number of 2^32 or more counts as 2^32.

@@ -1,19 +1,19 @@
 //! Scripts are read from texts.
 ghost use Rattle.std.specs.Prelude.{◌≡◌, ◌^◌, ◌-◌, ◌<◌, ◌≤◌, length, OnOk, IfOk, MatchResult, Ok};
 ghost use Rattle.vi_script.specs.Faults.{Reads};
-ghost use Rattle.vi_script.specs.Fields.{LinesFit, HasFields};
+ghost use Rattle.vi_lines.specs.Fields.{LinesFit, HasFields};
 ghost use Rattle.vi_script.specs.Forms.{form_of};
 ghost use Rattle.vi_script.specs.Texts.{judge, judge_words, script};
-ghost use Rattle.vi_script.specs.Calls.{HasTransfers};
+ghost use Rattle.vi_lines.specs.Calls.{HasTransfers};
 ghost use Rattle.vi_script.specs.Parsing.{Faults};
-ghost use Rattle.vi_script.specs.Valid.{IsValid};
+ghost use Rattle.vi_lines.specs.Valid.{IsValid};
 
-use crate::Script;
 use crate::draft::{Draft, MOST_LINES};
 use crate::fault::{BadKind, Refusal, ScriptFault};
 use crate::form::form;
 use crate::statement::statement;
 use std::alloc::Global;
+use vi_lines::Script;
 use vi_words::{Lines, Words, has_bad_byte, says_nothing};
 
 /// The script that a text is, or its first bad line. The text has fewer than 2^32 - 1 bytes.

@@ -2,7 +2,8 @@
 ghost use Rattle.std.specs.Prelude.{◌≡◌, IfOk};
 ghost use Rattle.std.specs.List.{list_all};
 ghost use Rattle.vi_script.specs.Faults.{Reads};
-ghost use Rattle.vi_script.specs.Fields.{JobFits, StatementFits};
+ghost use Rattle.vi_lines.specs.Fields.{JobFits};
+ghost use Rattle.vi_script.specs.Fitting.{StatementFits};
 ghost use Rattle.vi_script.specs.Formed.{deed_of, acted, formed};
 ghost use Rattle.vi_script.specs.Forms.{SendsRaw};
 ghost use Rattle.vi_script.specs.Names.{named, awaited, turned};

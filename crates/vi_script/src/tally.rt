@@ -1,18 +1,17 @@
 //! The lines of a text so far, and what they count.
 ghost use Rattle.std.specs.Prelude.{◌≡◌, ◌+◌, ◌<◌, ◌≤◌, true, nat_lt, [], ◌∷◌, ◌++◌, length, sum_by, All, IfOk};
 ghost use Rattle.vi_history.specs.declared.call.Caller.TheVariants.{Driver, Back};
-ghost use Rattle.vi_script.specs.Judging.{count_lines};
-ghost use Rattle.vi_script.specs.Limits.{transferred, bytes_in, open_calls, is_driver};
+ghost use Rattle.vi_lines.specs.Rules.{count_lines};
+ghost use Rattle.vi_lines.specs.Limits.{transferred, bytes_in, open_calls, is_driver};
 ghost use Rattle.vi_script.specs.Names.{named};
-ghost use Rattle.vi_script.specs.declared.line.Line.{Line};
+ghost use Rattle.vi_lines.specs.declared.line.Line.{Line};
 ghost use Rattle.vi_script.specs.Tallies.{grown, grown_table, is_caller};
 
-use crate::Line;
-use crate::index::{Row, add_place, count_of};
 use crate::name::Name;
 use std::alloc::{AllocError, Global};
 use std::marker::Model;
 use vi_history::Caller;
+use vi_lines::{Line, Row, add_place, count_of};
 
 /// How many drivers there can be.
 const DRIVERS: usize = 8;
@@ -77,7 +76,7 @@ pub struct Tally {
 
 impl Model for Tally {
     ghost use Rattle.std.specs.Prelude.{List};
-    ghost use Rattle.vi_script.specs.declared.line.Line.{Line};
+    ghost use Rattle.vi_lines.specs.declared.line.Line.{Line};
 
     ghost Value = { List Line };
 

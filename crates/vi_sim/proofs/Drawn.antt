@@ -1,8 +1,8 @@
 -- Draws, and the turns of the actors that they name.
 use Rattle.std.proofs.Common.{◌≡◌, ℕ, suc, ◌<◌, cond, List, [], ◌∷◌, ◌++◌, length, arith, sym, ap, subst, ◌∙◌}
-use Rattle.vi_script.specs.declared.line.Who.{Who}
-use Rattle.vi_script.specs.declared.line.Who.TheVariants as who
-use Rattle.vi_script.specs.Value.{ScriptValue}
+use Rattle.vi_lines.specs.declared.line.Who.{Who}
+use Rattle.vi_lines.specs.declared.line.Who.TheVariants as who
+use Rattle.vi_lines.specs.Value.{ScriptValue}
 use Rattle.vi_model.specs.Turns.{turn}
 use Rattle.vi_model.specs.Rounds.{drivers_of, backs_of, actors}
 use Rattle.vi_core.specs.Running.{Running}

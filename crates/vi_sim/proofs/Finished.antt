@@ -1,15 +1,15 @@
 -- Rounds until all is finished: any number of rounds that is enough comes to the same world.
 use Rattle.std.proofs.Common.{◌≡◌, ℕ, zero, suc, ◌<◌, ◌≤◌, Bool, true, false, cond, List, refl, arith, sym, ap, subst, ◌∙◌}
-use Rattle.vi_script.specs.declared.line.Who.{Who}
-use Rattle.vi_script.specs.Value.{ScriptValue}
+use Rattle.vi_lines.specs.declared.line.Who.{Who}
+use Rattle.vi_lines.specs.Value.{ScriptValue}
 use Rattle.vi_model.specs.Worlds.{World}
 use Rattle.vi_model.specs.Turns.{run}
 use Rattle.vi_model.specs.Playable.{IsPlayable}
 use Rattle.vi_model.specs.Sound.{SoundParts, IsSound}
 use Rattle.vi_model.specs.Rounds.{is_finished, actors, rounds}
 use Rattle.vi_model.specs.Bound.{measure}
-use Rattle.vi_model.proofs.Turns.{run_sound}
-use Rattle.vi_model.proofs.Rounds.{round_falls}
+use Rattle.vi_sound.proofs.Turns.{run_sound}
+use Rattle.vi_sound.proofs.Rounds.{round_falls}
 use Rattle.vi_core.specs.Running.{Running}
 use Rattle.vi_sim.specs.Simulated.{after_rounds}
 use Rattle.vi_sim.proofs.Runs.{run_is}

@@ -1,10 +1,10 @@
 -- What is known of each simulated run.
 use Rattle.std.proofs.Common.{◌≡◌, ℕ, zero, suc, ◌+◌, ◌*◌, ◌≤◌, Bool, true, false, cond, List, arith, ap, ◌∙◌}
 use Rattle.std.proofs.Math.Nat.{mul-le-mul_right}
-use Rattle.vi_script.specs.declared.line.Who.{Who}
-use Rattle.vi_script.specs.Value.{ScriptValue}
-use Rattle.vi_script.specs.Legal.{HasRecords, IsLegalHistory}
-use Rattle.vi_script.specs.Ordered.{IsOrdered}
+use Rattle.vi_lines.specs.declared.line.Who.{Who}
+use Rattle.vi_lines.specs.Value.{ScriptValue}
+use Rattle.vi_lines.specs.Legal.{HasRecords, IsLegalHistory}
+use Rattle.vi_lines.specs.Ordered.{IsOrdered}
 use Rattle.vi_model.specs.Places.{place_count}
 use Rattle.vi_model.specs.Worlds.{World, opening}
 use Rattle.vi_model.specs.Turns.{run}
@@ -12,13 +12,13 @@ use Rattle.vi_model.specs.Playable.{IsPlayable}
 use Rattle.vi_model.specs.Sound.{SoundParts, IsSound}
 use Rattle.vi_model.specs.Rounds.{is_finished, actors, calls_of, rounds}
 use Rattle.vi_model.specs.Bound.{measure}
-use Rattle.vi_model.proofs.Opening.{opening_sound}
-use Rattle.vi_model.proofs.Turns.{run_sound}
-use Rattle.vi_model.proofs.Rounds.{run_low, rounds_finish}
-use Rattle.vi_model.proofs.Finishes.{opening_low}
-use Rattle.vi_model.proofs.Ended.{finished_is_ordered}
-use Rattle.vi_model.proofs.Tested.{finished_has_finished}
-use Rattle.vi_model.proofs.Laws.{sound_is_legal}
+use Rattle.vi_sound.proofs.Opening.{opening_sound}
+use Rattle.vi_sound.proofs.Turns.{run_sound}
+use Rattle.vi_sound.proofs.Rounds.{run_low, rounds_finish}
+use Rattle.vi_sound.proofs.Finishes.{opening_low}
+use Rattle.vi_sound.proofs.Ended.{finished_is_ordered}
+use Rattle.vi_sound.proofs.Tested.{finished_has_finished}
+use Rattle.vi_sound.proofs.Laws.{sound_is_legal}
 use Rattle.vi_core.proofs.OutcomeLaws.{outcome_records}
 use Rattle.vi_core.specs.Running.{Running, opened}
 use Rattle.vi_core.specs.Outcomes.{outcome_of}

@@ -1,8 +1,8 @@
 -- The schedule of a simulated run: whom the generator draws, and how many rounds may follow.
 use Rattle.std.specs.Prelude.{ℕ, zero, suc, ◌+◌, ◌*◌, ◌/◌, ◌%◌, ◌^◌, List, [], ◌∷◌, length, get_or}
-use Rattle.vi_script.specs.declared.line.Who.{Who}
-use Rattle.vi_script.specs.declared.line.Who.TheVariants as who
-use Rattle.vi_script.specs.Value.{ScriptValue}
+use Rattle.vi_lines.specs.declared.line.Who.{Who}
+use Rattle.vi_lines.specs.declared.line.Who.TheVariants as who
+use Rattle.vi_lines.specs.Value.{ScriptValue}
 use Rattle.vi_model.specs.Places.{place_count}
 use Rattle.vi_model.specs.Rounds.{actors, calls_of}
 

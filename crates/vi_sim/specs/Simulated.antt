@@ -2,7 +2,7 @@
 use Rattle.std.specs.Prelude.{ℕ, List}
 use Rattle.vi_history.specs.declared.entry.Entry.{Entry}
 use Rattle.vi_history.specs.declared.outcome.Outcome.{Outcome}
-use Rattle.vi_script.specs.Value.{ScriptValue}
+use Rattle.vi_lines.specs.Value.{ScriptValue}
 use Rattle.vi_model.specs.Worlds.{World, opening}
 use Rattle.vi_model.specs.Turns.{run}
 use Rattle.vi_model.specs.Rounds.{rounds}

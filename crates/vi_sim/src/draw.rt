@@ -2,7 +2,7 @@
 ghost use Rattle.std.specs.Prelude.{◌≡◌, ◌<◌, length};
 ghost use Rattle.vi_sim.specs.Schedule.{next_draw, picked};
 
-use vi_script::Who;
+use vi_lines::Who;
 
 /// The generator's factor: a draw is the one before it times this, plus what is added, modulo 2^64.
 const MULTIPLIER: u64 = 6_364_136_223_846_793_005;

@@ -1,8 +1,8 @@
 //! The schedule of a simulated run.
 ghost use Rattle.std.specs.Prelude.{◌≡◌, true, IfOk};
 ghost use Rattle.vi_history.specs.Outcomes.{IsWellMade};
-ghost use Rattle.vi_script.specs.Legal.{HasRecords, IsLegalHistory};
-ghost use Rattle.vi_script.specs.Ordered.{IsOrdered};
+ghost use Rattle.vi_lines.specs.Legal.{HasRecords, IsLegalHistory};
+ghost use Rattle.vi_lines.specs.Ordered.{IsOrdered};
 ghost use Rattle.vi_model.specs.Playable.{IsPlayable};
 ghost use Rattle.vi_model.specs.Rounds as rounds;
 ghost use Rattle.vi_model.specs.Rounds.{is_finished};
@@ -12,7 +12,7 @@ use crate::draw::{next_draw, picked};
 use std::alloc::{AllocError, Global};
 use vi_core::{World, actors};
 use vi_history::Outcome;
-use vi_script::{Script, Who};
+use vi_lines::{Script, Who};
 
 /// The outcome of a script's run: first its own turns, then `moves` turns of actors that the generator draws from
 /// `generator_seed` on, then rounds of one turn of each actor until all lines are finished. An error is want of memory.

@@ -20,7 +20,7 @@ fn the_generator_is_mmix(rt: HostRuntime) -> Result<(), Fail> {
 }
 
 #[test]
-#[tactic(auto, using(vi_model::proofs::Playable::valid_is_playable))]
+#[tactic(auto, using(vi_sound::proofs::Playable::valid_is_playable))]
 fn a_read_comes_to_its_end(rt: HostRuntime) -> Result<(), Fail> {
     let alloc = rt.alloc();
     let outcome = sim(alloc, vi_script::parse(alloc, READ)?, 42, 20)?;

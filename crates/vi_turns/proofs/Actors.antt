@@ -5,10 +5,10 @@ use Rattle.std.proofs.lemmas.Bool.{ne_eqb}
 use Rattle.std.proofs.lemmas.List.{append-nil, length-append, set-get_or}
 use Rattle.std.proofs.lemmas.Option.{none-some, same_Some}
 use Rattle.vi_history.specs.declared.entry.Entry.{Entry}
-use Rattle.vi_history.specs.Logs.{Ticketed, Stands}
-use Rattle.vi_script.specs.declared.line.Who.{Who}
-use Rattle.vi_script.specs.declared.line.Who.TheVariants as who
-use Rattle.vi_script.specs.Value.{ScriptValue}
+use Rattle.vi_log.specs.Logs.{Ticketed, Stands}
+use Rattle.vi_lines.specs.declared.line.Who.{Who}
+use Rattle.vi_lines.specs.declared.line.Who.TheVariants as who
+use Rattle.vi_lines.specs.Value.{ScriptValue}
 use Rattle.vi_model.specs.Control.{driver_count}
 use Rattle.vi_model.specs.Places.{ids_of, place_count, place_of}
 use Rattle.vi_model.specs.Backs.{Seat, no_seat}
@@ -20,8 +20,8 @@ use Rattle.vi_model.specs.Rounds.{has_lines, backs_of, actors}
 use Rattle.vi_model.specs.Laws.{same_actor, with_leases}
 use Rattle.vi_model.specs.Playable.{IsPlayable}
 use Rattle.vi_model.specs.Sound.{IsSound}
-use Rattle.vi_model.proofs.Laws.{others_stay, fewer_leases_keep_sound}
-use Rattle.vi_model.proofs.Owns.{actors_go_on, actors_access, places_have_ids}
+use Rattle.vi_sound.proofs.Laws.{others_stay, fewer_leases_keep_sound}
+use Rattle.vi_sound.proofs.Owns.{actors_go_on, actors_access, places_have_ids}
 use Rattle.vi_turns.specs.Order.{HasActor}
 use Rattle.vi_turns.specs.Views.{who_of}
 use Rattle.vi_turns.proofs.Getting.{get_longer}

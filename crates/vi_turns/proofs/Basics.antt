@@ -5,8 +5,8 @@ use mathlib.Core.Logic.{dite}
 use native.Mathlib.Decide.{dec_le}
 use lib.ListN.{get_elem?}
 use Rattle.std.proofs.lemmas.Bool.Decides.{nat_tests}
-use Rattle.vi_history.specs.Logs.{Stands, once_below}
-use Rattle.vi_script.specs.Value.{ScriptValue}
+use Rattle.vi_log.specs.Logs.{Stands, once_below}
+use Rattle.vi_lines.specs.Value.{ScriptValue}
 use Rattle.vi_model.specs.Worlds.{World}
 use Rattle.vi_turns.specs.Holding.{Held, TheControl, ThePage, Taken}
 use Rattle.vi_turns.specs.Views.{total, same, number_count}

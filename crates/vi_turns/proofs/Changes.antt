@@ -4,9 +4,9 @@ use Rattle.std.specs.Prelude.{nat_lt}
 use Rattle.std.proofs.lemmas.Bool.{ltb-true}
 use lib.ListN.{get_elem?}
 use mathlib.Core.Option.{some}
-use Rattle.vi_script.specs.declared.line.Who.{Who}
-use Rattle.vi_script.specs.declared.line.Who.TheVariants as who
-use Rattle.vi_script.specs.Value.{ScriptValue}
+use Rattle.vi_lines.specs.declared.line.Who.{Who}
+use Rattle.vi_lines.specs.declared.line.Who.TheVariants as who
+use Rattle.vi_lines.specs.Value.{ScriptValue}
 use Rattle.vi_model.specs.Control.{Control}
 use Rattle.vi_model.specs.Places.{place_count, place_of}
 use Rattle.vi_model.specs.Backs.{Wish, Accesses, Asks, Receives, Rests, wish, target_of}
@@ -15,9 +15,9 @@ use Rattle.vi_model.specs.Worlds.{World, actor_of, seat_of, with_actor}
 use Rattle.vi_model.specs.Turns.{ControlTurn, AccessTurn, control_turn, accesses, accessed_page, wished_page, made_entries, left_by, left_by_access}
 use Rattle.vi_model.specs.Playable.{IsPlayable}
 use Rattle.vi_model.specs.Sound.{IsSound}
-use Rattle.vi_model.proofs.Laws.{control_keeps_sound}
-use Rattle.vi_model.proofs.Turns.{page_is}
-use Rattle.vi_core.proofs.PageRoom.{page_room}
+use Rattle.vi_sound.proofs.Laws.{control_keeps_sound}
+use Rattle.vi_sound.proofs.Turns.{page_is}
+use Rattle.vi_sound.proofs.PageRoom.{page_room}
 use Rattle.vi_turns.specs.Holding.{Held, TheControl, ThePage}
 use Rattle.vi_turns.specs.Views.{who_of}
 use Rattle.vi_turns.specs.Order.{slot_of, Has, HasActor, IsInOrder}

@@ -15,18 +15,18 @@ use lib.ListN.{get_elem?}
 use Rattle.atomic_table.specs.Table.{opening, Final, Seen}
 use Rattle.vi_bytes.specs.declared.span.TheConstants.{PAGE}
 use Rattle.vi_history.specs.Start.{start, zero_page}
-use Rattle.vi_history.specs.Logs as logs
-use Rattle.vi_history.specs.Logs.{Ticketed, LogValue, Stands, once_below}
-use Rattle.vi_script.specs.Value.{ScriptValue}
-use Rattle.vi_script.specs.Legal.{IsLegalHistory}
-use Rattle.vi_script.specs.Order.{IsOrderedSoFar}
+use Rattle.vi_log.specs.Logs as logs
+use Rattle.vi_log.specs.Logs.{Ticketed, LogValue, Stands, once_below}
+use Rattle.vi_lines.specs.Value.{ScriptValue}
+use Rattle.vi_lines.specs.Legal.{IsLegalHistory}
+use Rattle.vi_lines.specs.Order.{IsOrderedSoFar}
 use Rattle.vi_model.specs.Control as model
 use Rattle.vi_model.specs.Worlds as worlds
 use Rattle.vi_model.specs.Worlds.{World, opening_control}
 use Rattle.vi_model.specs.Actors.{other_actor}
 use Rattle.vi_model.specs.Playable.{IsPlayable}
 use Rattle.vi_model.specs.Sound.{IsSound}
-use Rattle.vi_model.proofs.Laws.{opening_is_sound, sound_is_legal}
+use Rattle.vi_sound.proofs.Laws.{opening_is_sound, sound_is_legal}
 use Rattle.vi_control.specs.Plan.{plan_of}
 use Rattle.vi_control.specs.Value.{ControlValue}
 use Rattle.vi_turns.specs.Holding.{Held, TheControl, ThePage, Taken, Last}

@@ -7,9 +7,9 @@ use native.Mathlib.Decide.{ℕ_discrete}
 use lib.ListN.{get_elem?}
 use Rattle.atomic_table.specs.Table.{Splits, Joins}
 use Rattle.atomic_table.proofs.Lists.{at_set, at_snoc, at_longer, set_else, set_again}
-use Rattle.vi_history.specs.Logs.{Stands, once_below}
+use Rattle.vi_log.specs.Logs.{Stands, once_below}
 use Rattle.vi_history.specs.declared.entry.Entry.{Entry}
-use Rattle.vi_script.specs.Value.{ScriptValue}
+use Rattle.vi_lines.specs.Value.{ScriptValue}
 use Rattle.vi_model.specs.Worlds.{World}
 use Rattle.vi_turns.specs.Holding.{Held, TheControl, ThePage, Taken}
 use Rattle.vi_turns.specs.Views.{who_of, first_actor, total, same, number_count, stamp_count, ticket_count, weight, split_left, split_right, taken_of, joined, spent, keepsake, itself}

@@ -7,9 +7,9 @@ use native.Mathlib.Decide.{ℕ_discrete}
 use lib.ListN.{get_elem?}
 use Rattle.atomic_table.specs.Table.{step, gives, Allows}
 use Rattle.atomic_table.proofs.Lists.{at_set, set_here, set_else}
-use Rattle.vi_history.specs.Logs.{Stands, once_below}
-use Rattle.vi_script.specs.declared.line.Who.{Who}
-use Rattle.vi_script.specs.Value.{ScriptValue}
+use Rattle.vi_log.specs.Logs.{Stands, once_below}
+use Rattle.vi_lines.specs.declared.line.Who.{Who}
+use Rattle.vi_lines.specs.Value.{ScriptValue}
 use Rattle.vi_model.specs.Control.{Control}
 use Rattle.vi_model.specs.Worlds.{World}
 use Rattle.vi_model.specs.Turns.{ControlTurn, control_turn, made_entries, left_by}

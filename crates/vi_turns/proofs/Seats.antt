@@ -8,8 +8,8 @@ use lib.ListN.{get_elem?}
 use Rattle.atomic_table.specs.Table.{State}
 use Rattle.atomic_table.proofs.Lists.{at_set, set_else}
 use Rattle.std.proofs.lemmas.Option.{same_Some}
-use Rattle.vi_history.specs.Logs.{once_below}
-use Rattle.vi_script.specs.Value.{ScriptValue}
+use Rattle.vi_log.specs.Logs.{once_below}
+use Rattle.vi_lines.specs.Value.{ScriptValue}
 use Rattle.vi_model.specs.Worlds.{World}
 use Rattle.vi_model.specs.Sound.{IsSound}
 use Rattle.vi_turns.specs.Holding.{Held, TheControl, ThePage, Taken}

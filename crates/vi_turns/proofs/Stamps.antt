@@ -9,16 +9,16 @@ use lib.ListN.{get_elem?}
 use Rattle.atomic_table.specs.Table.{step, keeps, Allows}
 use Rattle.atomic_table.proofs.Lists.{at_set}
 use Rattle.vi_history.specs.declared.entry.Entry.{Entry}
-use Rattle.vi_history.specs.Logs.{Ticketed, Stands, once_below}
-use Rattle.vi_script.specs.declared.line.Who.{Who}
-use Rattle.vi_script.specs.Value.{ScriptValue}
+use Rattle.vi_log.specs.Logs.{Ticketed, Stands, once_below}
+use Rattle.vi_lines.specs.declared.line.Who.{Who}
+use Rattle.vi_lines.specs.Value.{ScriptValue}
 use Rattle.vi_model.specs.Control.{Control}
 use Rattle.vi_model.specs.Actors.{Actor}
 use Rattle.vi_model.specs.Worlds.{World, actor_of}
 use Rattle.vi_model.specs.Turns.{ControlTurn, AccessTurn, control_turn, accesses, access_turn, made_entries, left_by, left_by_access}
 use Rattle.vi_model.specs.Sound.{IsSound}
-use Rattle.vi_model.proofs.Laws.{accesses_keep_sound, sound_is_legal}
-use Rattle.vi_model.proofs.Room.{history_fits}
+use Rattle.vi_sound.proofs.Laws.{accesses_keep_sound, sound_is_legal}
+use Rattle.vi_sound.proofs.Room.{history_fits}
 use Rattle.vi_turns.specs.Holding.{Held, TheControl, ThePage}
 use Rattle.vi_turns.specs.Views.{who_of, turn_by, turn_of, accesses_by, access_by, access_of, same, stamp_count, logged, stamped, stamped_by, stamped_turn, stamped_access}
 use Rattle.vi_turns.specs.Order.{slot_of, word_of, Has, HoldsNot, Lock, held, Each, HasActor, IsTaken, Knows, IsInOrder, Told}

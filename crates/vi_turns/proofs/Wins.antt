@@ -8,8 +8,8 @@ use lib.Seq.{set-get_or}
 use prog.Atomic.{either}
 use Rattle.atomic_table.specs.Table.{step, keeps, takes, rest, stepped, Allows}
 use Rattle.atomic_table.proofs.Lists.{at_set, set_else}
-use Rattle.vi_history.specs.Logs.{Ticketed, once_below}
-use Rattle.vi_script.specs.Value.{ScriptValue}
+use Rattle.vi_log.specs.Logs.{Ticketed, once_below}
+use Rattle.vi_lines.specs.Value.{ScriptValue}
 use Rattle.vi_model.specs.Control.{Control}
 use Rattle.vi_model.specs.Worlds.{World}
 use Rattle.vi_model.specs.Playable.{IsPlayable}

@@ -1,8 +1,8 @@
 -- What a pass holds, and what is left of a pass that has ended.
 use Rattle.std.specs.Prelude.{ℕ, Bool, false, List, [], Option, None}
 use Rattle.vi_history.specs.declared.setup.Setup.{Setup}
-use Rattle.vi_history.specs.Logs.{Ticketed}
-use Rattle.vi_script.specs.Value.{ScriptValue}
+use Rattle.vi_log.specs.Logs.{Ticketed}
+use Rattle.vi_lines.specs.Value.{ScriptValue}
 use Rattle.vi_model.specs.Control.{Control}
 use Rattle.vi_model.specs.Actors.{Progress, Actor, other_actor}
 

@@ -6,11 +6,11 @@ use mathlib.Core.Option as maybe
 use lib.ListN.{get_elem?}
 use Rattle.atomic_table.specs.Table.{State}
 use Rattle.vi_history.specs.declared.entry.Entry.{Entry}
-use Rattle.vi_history.specs.Logs.{Stands, once_below}
-use Rattle.vi_script.specs.declared.line.Who.{Who}
-use Rattle.vi_script.specs.Value.{ScriptValue}
-use Rattle.vi_script.specs.Legal.{IsLegalHistory}
-use Rattle.vi_script.specs.Order.{IsOrderedSoFar}
+use Rattle.vi_log.specs.Logs.{Stands, once_below}
+use Rattle.vi_lines.specs.declared.line.Who.{Who}
+use Rattle.vi_lines.specs.Value.{ScriptValue}
+use Rattle.vi_lines.specs.Legal.{IsLegalHistory}
+use Rattle.vi_lines.specs.Order.{IsOrderedSoFar}
 use Rattle.vi_model.specs.Actors.{Actor}
 use Rattle.vi_model.specs.Worlds.{World, actor_of}
 use Rattle.vi_model.specs.Playable.{IsPlayable}

@@ -7,7 +7,7 @@ use crate::view::View;
 use atomic_table::Seat;
 use std::marker::Model;
 use vi_control::Control;
-use vi_history::Log;
+use vi_log::Log;
 use vi_memory::Page;
 
 /// The shared object's values at its end, and the log of pass 0. `Shared::close` alone makes one: its last part is

@@ -3,7 +3,7 @@ use crate::slot::Slot;
 use crate::view::View;
 use atomic_table::Seat;
 use std::marker::Model;
-use vi_history::Log;
+use vi_log::Log;
 
 /// A seat at the table, with the log of the entries that it stamped. Pass 0 acts for nobody, and the i-th that is split
 /// from it for the i-th actor of the script. Contracts see its view, and for how much its log has room.

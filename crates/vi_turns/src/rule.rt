@@ -6,7 +6,7 @@ ghost use Rattle.vi_turns.specs.Steps.{Fronts, Gives, Stamps, TriesControl, Trie
 use crate::slot::Slot;
 use crate::view::View;
 use atomic_table::{Join, Play, Split, TableRule};
-use vi_script::Script;
+use vi_lines::Script;
 
 /// Between any two steps the table is in order.
 pub struct InOrder;

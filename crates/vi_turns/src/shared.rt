@@ -22,9 +22,10 @@ use atomic_table::Table;
 use std::alloc::{AllocError, Global};
 use std::marker::Model;
 use vi_control::Control;
-use vi_history::{Log, Mark};
+use vi_history::Mark;
+use vi_lines::Script;
+use vi_log::Log;
 use vi_memory::Page;
-use vi_script::Script;
 
 /// Somebody else had the value: this call's exchange on the word found `found`, the holder's number plus 1.
 #[derive(Clone, Copy, Debug, PartialEq, Eq)]

@@ -1,8 +1,8 @@
 //! What a pass knows.
 ghost use Rattle.std.specs.Prelude.{ℕ, Bool, List, Option};
 ghost use Rattle.std.specs.Borrow.{ftrue};
-ghost use Rattle.vi_history.specs.Logs.{Ticketed};
-ghost use Rattle.vi_script.specs.Value.{ScriptValue};
+ghost use Rattle.vi_log.specs.Logs.{Ticketed};
+ghost use Rattle.vi_lines.specs.Value.{ScriptValue};
 ghost use Rattle.vi_model.specs.Actors.{Actor};
 ghost use Rattle.vi_model.specs.Control.{Control};
 ghost use Rattle.vi_turns.specs.Holding.{Held, Last, Loss, Taken};

@@ -2,9 +2,9 @@
 use Rattle.std.proofs.Common.{◌≡◌, ℕ, List, Option, Some, None}
 use Rattle.std.specs.Prelude as std
 use Rattle.vi_script.proofs.SoundLemmas.{script-valid}
-use Rattle.vi_script.specs.Value.{ScriptValue}
+use Rattle.vi_lines.specs.Value.{ScriptValue}
 use Rattle.vi_script.specs.Texts.{script, Bad}
-use Rattle.vi_script.specs.Valid.{IsValid}
+use Rattle.vi_lines.specs.Valid.{IsValid}
 use Rattle.viommu.specs.Accepted.{accepts}
 use Rattle.viommu.specs.Judged.{lines_above, script_above, without_report, judged_at, judged_script}
 use Rattle.viommu.specs.declared.command.Task.{Task}

@@ -8,8 +8,8 @@ use Rattle.std.proofs.lemmas.List.Quantifiers.{position-Some}
 use Rattle.std.proofs.lemmas.Option.{slice_get_past, slice_get-get_or}
 use Rattle.std.proofs.lemmas.List.Folds.{find_at, find-set, find_past, find-append}
 use Rattle.vi_history.specs.declared.call.Caller.{Caller}
-use Rattle.vi_script.specs.Calls.{same_caller}
-use Rattle.vi_script.proofs.IndexLemmas.{same_caller-eq}
+use Rattle.vi_lines.specs.Calls.{same_caller}
+use Rattle.vi_lines.proofs.IndexLemmas.{same_caller-eq}
 use Rattle.viommu.specs.declared.counts.Count.{Count}
 use Rattle.viommu.specs.Counts.{number_in, number_for}
 

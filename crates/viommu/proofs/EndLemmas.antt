@@ -5,7 +5,7 @@ use Rattle.std.specs.declared.option.Option.{Option}
 use Rattle.std.specs.Io.KnownBytes.{Appends, Keeps}
 use Rattle.std.proofs.KnownBytes.{Appends-nil, Appends-kept}
 use Rattle.vi_history.specs.declared.outcome.Outcome.{Outcome}
-use Rattle.vi_script.specs.Value.{ScriptValue}
+use Rattle.vi_lines.specs.Value.{ScriptValue}
 use Rattle.vi_script.specs.Texts.{Bad}
 use Rattle.vi_script.specs.declared.fault.BadKind.{BadKind}
 use Rattle.vi_report.specs.Reading.{read_report}

@@ -11,7 +11,7 @@ use Rattle.std.proofs.lemmas.Bool.Decides.{nat_tests}
 use Rattle.vi_words.specs.Words.{in_front, lines_of_text, is_word}
 use Rattle.std.specs.Prelude.{Result}
 use Rattle.vi_script.specs.Texts.{script, Bad}
-use Rattle.vi_script.specs.Value.{ScriptValue}
+use Rattle.vi_lines.specs.Value.{ScriptValue}
 use Rattle.vi_script.specs.Parsing.{Faults}
 use Rattle.vi_script.specs.declared.fault.ScriptFault.{ScriptFault}
 use Rattle.vi_script.specs.declared.fault.ScriptFault.TheVariants as fault

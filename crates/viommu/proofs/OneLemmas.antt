@@ -13,12 +13,12 @@ use Rattle.vi_history.specs.declared.call.Caller.{Caller}
 use Rattle.vi_history.specs.declared.call.Caller.TheVariants.{Driver, Back}
 use Rattle.vi_history.specs.declared.entry.Entry.{Entry}
 use Rattle.vi_history.specs.declared.outcome.Shown.{Shown}
-use Rattle.vi_script.proofs.IndexLemmas.{same_caller-self, length-filter-le}
-use Rattle.vi_script.specs.declared.line.Line.{Line}
-use Rattle.vi_script.specs.Value.{ScriptValue}
-use Rattle.vi_script.specs.Calls.{same_caller, line_of, call_of, call_in, parts_of}
-use Rattle.vi_script.specs.Judging.{count_lines}
-use Rattle.vi_script.specs.Legal.{AreCalls, IsLegalHistory, HasRecords}
+use Rattle.vi_lines.proofs.IndexLemmas.{same_caller-self, length-filter-le}
+use Rattle.vi_lines.specs.declared.line.Line.{Line}
+use Rattle.vi_lines.specs.Value.{ScriptValue}
+use Rattle.vi_lines.specs.Calls.{same_caller, line_of, call_of, call_in, parts_of}
+use Rattle.vi_lines.specs.Rules.{count_lines}
+use Rattle.vi_lines.specs.Legal.{AreCalls, IsLegalHistory, HasRecords}
 use Rattle.viommu.specs.OneThread.{Replied, nothing_replied, entry_for, with_reply, with_call, with_part, stops, with_parts, with_line_of, with_line, with_lines, one_thread}
 
 -- the line behind those above is the next one of its caller

@@ -5,18 +5,18 @@ use Rattle.std.specs.declared.option.Option.{Option}
 use Rattle.std.specs.Io.KnownBytes.{Appends, Keeps}
 use Rattle.vi_history.specs.Outcomes.{IsWellMade}
 use Rattle.vi_history.specs.declared.outcome.Outcome.{Outcome}
-use Rattle.vi_script.specs.Value.{ScriptValue}
+use Rattle.vi_lines.specs.Value.{ScriptValue}
 use Rattle.vi_script.specs.Texts.{script, Bad}
-use Rattle.vi_script.specs.Legal.{IsLegalHistory, HasRecords}
-use Rattle.vi_script.specs.Ordered.{IsOrdered}
+use Rattle.vi_lines.specs.Legal.{IsLegalHistory, HasRecords}
+use Rattle.vi_lines.specs.Ordered.{IsOrdered}
 use Rattle.vi_script.specs.declared.fault.BadKind.{BadKind}
 use Rattle.vi_model.specs.Worlds.{World}
 use Rattle.vi_model.specs.Rounds.{is_finished}
 use Rattle.vi_model.specs.Playable.{IsPlayable}
 use Rattle.vi_model.specs.Sound.{IsSound}
-use Rattle.vi_model.proofs.Ended.{finished_is_ordered}
-use Rattle.vi_model.proofs.Tested.{finished_has_finished}
-use Rattle.vi_model.proofs.Laws.{sound_is_legal}
+use Rattle.vi_sound.proofs.Ended.{finished_is_ordered}
+use Rattle.vi_sound.proofs.Tested.{finished_has_finished}
+use Rattle.vi_sound.proofs.Laws.{sound_is_legal}
 use Rattle.vi_core.proofs.OutcomeLaws.{outcome_records}
 use Rattle.vi_order.proofs.Unmapped.{unmaps_hold}
 use Rattle.vi_run.specs.Runs.{FinishedValue, CameTo}

@@ -15,15 +15,15 @@ use Rattle.vi_history.specs.declared.call.Caller.TheVariants.{Driver, Back}
 use Rattle.vi_history.specs.declared.setup.Setup.{Setup}
 use Rattle.vi_plain.specs.Kept.{IsGranule}
 use Rattle.vi_plain.specs.Conditions.{HasFewRegions, IsPlainSetup, IsInOnePage, IsPlainCall}
-use Rattle.vi_script.specs.declared.job.Job.{Job}
-use Rattle.vi_script.specs.declared.job.Job.TheVariants as job
-use Rattle.vi_script.specs.declared.line.Line.{Line}
-use Rattle.vi_script.specs.Calls.{TransfersWell, call_in, driver_call, back_call, part_bytes, parts_of}
-use Rattle.vi_script.specs.Judging.{job_runs_over}
-use Rattle.vi_script.specs.Limits.{is_job, is_granule}
-use Rattle.vi_script.specs.Value.{ScriptValue}
-use Rattle.vi_script.proofs.TransferLemmas.{HasTransfers-from_valid}
-use Rattle.vi_script.specs.Valid.{IsValid, IsValidSetup, AreEndpoints, is_line, is_caller_in, does}
+use Rattle.vi_lines.specs.declared.job.Job.{Job}
+use Rattle.vi_lines.specs.declared.job.Job.TheVariants as job
+use Rattle.vi_lines.specs.declared.line.Line.{Line}
+use Rattle.vi_lines.specs.Calls.{TransfersWell, call_in, driver_call, back_call, part_bytes, parts_of}
+use Rattle.vi_lines.specs.Rules.{job_runs_over}
+use Rattle.vi_lines.specs.Limits.{is_job, is_granule}
+use Rattle.vi_lines.specs.Value.{ScriptValue}
+use Rattle.vi_lines.proofs.TransferLemmas.{HasTransfers-from_valid}
+use Rattle.vi_lines.specs.Valid.{IsValid, IsValidSetup, AreEndpoints, is_line, is_caller_in, does}
 use Rattle.viommu.specs.Made.{IsCaller, IsTaken}
 
 list_all_here : {X : Type 0} (p : X → Bool) (xs : List X) (i : ℕ) (d : X) → list_all p xs ≡ true → i < length xs → p (get_or xs i d) ≡ true

@@ -11,10 +11,10 @@ use Rattle.vi_history.specs.declared.outcome.Outcome.{Outcome}
 use Rattle.vi_report.specs.Reading.{read_report}
 use Rattle.vi_report.specs.Texts.{text}
 use Rattle.vi_report.specs.Types.{IsTyped}
-use Rattle.vi_script.specs.Value.{ScriptValue}
+use Rattle.vi_lines.specs.Value.{ScriptValue}
 use Rattle.vi_script.specs.Texts.{Bad}
-use Rattle.vi_script.specs.Legal.{IsLegalHistory, HasRecords}
-use Rattle.vi_script.specs.Ordered.{IsOrdered}
+use Rattle.vi_lines.specs.Legal.{IsLegalHistory, HasRecords}
+use Rattle.vi_lines.specs.Ordered.{IsOrdered}
 use Rattle.vi_sim.specs.Simulated.{simulated}
 use Rattle.viommu.specs.Accepted.{accepts}
 use Rattle.viommu.specs.Judged.{judged_report}

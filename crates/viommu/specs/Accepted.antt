@@ -1,7 +1,7 @@
 -- Which scripts each command takes, and how many bytes it reads.
 use Rattle.std.specs.Prelude.{ℕ, List, Result, Some, None}
 use Rattle.std.specs.declared.option.Option.{Option}
-use Rattle.vi_script.specs.Value.{ScriptValue}
+use Rattle.vi_lines.specs.Value.{ScriptValue}
 use Rattle.vi_script.specs.Texts.{script, Bad}
 use Rattle.viommu.specs.Judged.{judged_script}
 use Rattle.viommu.specs.declared.command.Command.{Command}

@@ -2,7 +2,7 @@
 use Rattle.std.specs.Prelude.{ℕ, List, Option, Some, None}
 use Rattle.std.specs.List.{find}
 use Rattle.vi_history.specs.declared.call.Caller.{Caller}
-use Rattle.vi_script.specs.Calls.{same_caller}
+use Rattle.vi_lines.specs.Calls.{same_caller}
 use Rattle.viommu.specs.declared.counts.Count.{Count}
 
 -- the number in a row, 0 where there is none

@@ -7,8 +7,8 @@ use Rattle.vi_history.specs.declared.call.Caller.TheVariants.{Driver, Back}
 use Rattle.vi_history.specs.declared.entry.Entry.{Entry}
 use Rattle.vi_history.specs.declared.outcome.Shown.{Shown}
 use Rattle.vi_plain.specs.Conditions.{IsPlainCall}
-use Rattle.vi_script.specs.declared.line.Line.{Line}
-use Rattle.vi_script.specs.Calls.{TransfersWell, call_in}
+use Rattle.vi_lines.specs.declared.line.Line.{Line}
+use Rattle.vi_lines.specs.Calls.{TransfersWell, call_in}
 
 -- the entries are made as declared, and each record is that of one of them
 pub record AreMade (entries : List Entry) (shown : List Shown) : Type 0 where

@@ -13,10 +13,10 @@ use Rattle.vi_history.specs.declared.entry.Entry.{Entry}
 use Rattle.vi_history.specs.declared.outcome.Outcome.{Outcome}
 use Rattle.vi_history.specs.declared.outcome.Shown.{Shown}
 use Rattle.vi_history.specs.declared.setup.Setup.{Setup}
-use Rattle.vi_script.specs.declared.line.Line.{Line}
-use Rattle.vi_script.specs.Value.{ScriptValue}
-use Rattle.vi_script.specs.Calls.{call_in, parts_of}
-use Rattle.vi_script.specs.Judging.{count_lines}
+use Rattle.vi_lines.specs.declared.line.Line.{Line}
+use Rattle.vi_lines.specs.Value.{ScriptValue}
+use Rattle.vi_lines.specs.Calls.{call_in, parts_of}
+use Rattle.vi_lines.specs.Rules.{count_lines}
 
 -- the device with its memory, and the entries and records of what was replied so far
 pub record Replied : Type 0 where

@@ -7,10 +7,10 @@ use Rattle.vi_history.specs.Outcomes.{IsWellMade}
 use Rattle.vi_history.specs.declared.outcome.Outcome.{Outcome}
 use Rattle.vi_report.specs.Texts.{text}
 use Rattle.vi_report.specs.Types.{IsTyped}
-use Rattle.vi_script.specs.Value.{ScriptValue}
+use Rattle.vi_lines.specs.Value.{ScriptValue}
 use Rattle.vi_script.specs.Texts.{script, Bad}
-use Rattle.vi_script.specs.Legal.{IsLegalHistory, HasRecords}
-use Rattle.vi_script.specs.Ordered.{IsOrdered}
+use Rattle.vi_lines.specs.Legal.{IsLegalHistory, HasRecords}
+use Rattle.vi_lines.specs.Ordered.{IsOrdered}
 use Rattle.vi_order.specs.Unmapped.{FaultsBehindUnmaps}
 use Rattle.vi_make.specs.LoadScript.{load_script}
 use Rattle.vi_make.specs.Summaries.{summary_line}

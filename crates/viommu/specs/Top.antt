@@ -9,10 +9,10 @@ use Rattle.vi_report.specs.Texts.{text}
 use Rattle.vi_report.specs.Types.{IsTyped}
 use Rattle.vi_report.specs.Reading.{read_report}
 use Rattle.vi_sim.specs.Simulated.{simulated}
-use Rattle.vi_script.specs.Value.{ScriptValue}
+use Rattle.vi_lines.specs.Value.{ScriptValue}
 use Rattle.vi_script.specs.Texts.{Bad}
-use Rattle.vi_script.specs.Legal.{IsLegalHistory, HasRecords}
-use Rattle.vi_script.specs.Ordered.{IsOrdered}
+use Rattle.vi_lines.specs.Legal.{IsLegalHistory, HasRecords}
+use Rattle.vi_lines.specs.Ordered.{IsOrdered}
 use Rattle.vi_script.specs.declared.fault.BadKind.{BadKind}
 use Rattle.vi_order.specs.Unmapped.{FaultsBehindUnmaps}
 use Rattle.vi_check.specs.Verdicts.{verdict}

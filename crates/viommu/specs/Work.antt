@@ -10,10 +10,10 @@ use Rattle.vi_check.specs.Verdicts.{verdict}
 use Rattle.vi_check.specs.Texts.{verdict_text}
 use Rattle.vi_check.specs.declared.verdict.Verdict.TheVariants as verdicts
 use Rattle.vi_sim.specs.Simulated.{simulated}
-use Rattle.vi_script.specs.Value.{ScriptValue}
+use Rattle.vi_lines.specs.Value.{ScriptValue}
 use Rattle.vi_script.specs.Texts.{Bad}
-use Rattle.vi_script.specs.Legal.{IsLegalHistory, HasRecords}
-use Rattle.vi_script.specs.Ordered.{IsOrdered}
+use Rattle.vi_lines.specs.Legal.{IsLegalHistory, HasRecords}
+use Rattle.vi_lines.specs.Ordered.{IsOrdered}
 use Rattle.viommu.specs.Accepted.{accepts}
 use Rattle.viommu.specs.Judged.{judged_report}
 use Rattle.viommu.specs.OneThread.{one_thread}

@@ -1,7 +1,7 @@
 //! How many lines each caller has had.
 ghost use Rattle.std.specs.Prelude.{◌≡◌, ◌+◌, ◌-◌, ◌^◌, ◌<◌, [], if◌then◌else◌, IfOk, OnOk, position};
 ghost use Rattle.vi_history.specs.declared.call.Caller.{Caller};
-ghost use Rattle.vi_script.specs.Calls.{same_caller};
+ghost use Rattle.vi_lines.specs.Calls.{same_caller};
 ghost use Rattle.viommu.specs.Counts.{number_for};
 
 use std::alloc::{AllocError, Global};

@@ -5,7 +5,7 @@ ghost use Rattle.vi_history.specs.Outcomes.{HasPart, IsWellMade};
 ghost use Rattle.vi_history.specs.Records.{record_of};
 ghost use Rattle.vi_history.specs.Replies.{reply};
 ghost use Rattle.vi_plain.specs.Conditions.{IsPlainSetup, IsPlainCall};
-ghost use Rattle.vi_script.specs.Calls.{call_in, parts_of};
+ghost use Rattle.vi_lines.specs.Calls.{call_in, parts_of};
 ghost use Rattle.viommu.specs.Made.{IsTaken};
 ghost use Rattle.viommu.specs.OneThread.{nothing_replied, with_reply, with_part, with_parts, with_line, outcome_of, stops};
 
@@ -15,7 +15,7 @@ use vi_bytes::Items;
 use vi_fault::FaultRecord;
 use vi_history::{Call, Caller, Entry, Mark, Outcome, Setup, Shown};
 use vi_plain::Plain;
-use vi_script::Line;
+use vi_lines::Line;
 
 /// The one-thread device, its entries, and the records of those that are faults.
 #[derive(Drop)]

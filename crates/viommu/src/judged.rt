@@ -1,8 +1,8 @@
 //! The input of `check`: a script, the line `report`, and a report.
 ghost use Rattle.std.specs.Prelude.{◌≡◌, ◌≤◌, ◌+◌, MatchOption, MatchResult, IfOk, IsErr, Ok, None, length};
-ghost use Rattle.vi_script.specs.Fields.{HasFields};
+ghost use Rattle.vi_lines.specs.Fields.{HasFields};
 ghost use Rattle.vi_script.specs.Parsing.{Faults};
-ghost use Rattle.vi_script.specs.Valid.{IsValid};
+ghost use Rattle.vi_lines.specs.Valid.{IsValid};
 ghost use Rattle.vi_words.specs.Words.{lines_of_text};
 ghost use Rattle.vi_script.specs.Texts.{script};
 ghost use Rattle.viommu.specs.Judged.{lines_above, judged_report, judged_script, without_report};
@@ -10,7 +10,8 @@ ghost use Rattle.viommu.specs.Cuts.{IsCutAt};
 ghost use Rattle.viommu.specs.declared.top.TheConstants.{CHECK_LIMIT};
 
 use std::alloc::Global;
-use vi_script::{BadKind, Script, ScriptFault};
+use vi_lines::Script;
+use vi_script::{BadKind, ScriptFault};
 use vi_words::Lines;
 
 /// The line between the script and the report.

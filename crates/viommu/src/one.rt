@@ -1,14 +1,14 @@
 //! The outcome of a script on the one-thread device.
 ghost use Rattle.std.specs.Prelude.{◌≡◌, IfOk};
 ghost use Rattle.vi_history.specs.Outcomes.{IsWellMade};
-ghost use Rattle.vi_script.specs.Valid.{IsValid};
+ghost use Rattle.vi_lines.specs.Valid.{IsValid};
 ghost use Rattle.viommu.specs.OneThread.{one_thread};
 
 use crate::counts::Counts;
 use crate::course::Course;
 use std::alloc::{AllocError, Global};
 use vi_history::Outcome;
-use vi_script::Script;
+use vi_lines::Script;
 
 /// Replies to the script's lines in the order of the text, without caches or threads, a transfer's parts up
 /// to the first that faults. All records are shown. An error is want of memory.

@@ -11,7 +11,7 @@ use std::test::Fail;
 use std::thread;
 use std::thread::Threads;
 use vi_run::{Free, Gate, Point};
-use vi_script::Who;
+use vi_lines::Who;
 
 const USAGE: &[u8] = b"usage: viommu run W | sim S T | one | check | make N | load N W\n";
 

@@ -2,9 +2,9 @@
 ghost use Rattle.std.specs.Prelude.{◌≡◌, ◌≤◌, ◌⊎◌, ℕ, List, length, Ok, Some, None, IfOk};
 ghost use Rattle.std.specs.declared.option.Option.{Option};
 ghost use Rattle.std.specs.Io.KnownBytes.{Appends, Keeps};
-ghost use Rattle.vi_script.specs.Fields.{HasFields};
+ghost use Rattle.vi_lines.specs.Fields.{HasFields};
 ghost use Rattle.vi_script.specs.Texts as texts;
-ghost use Rattle.vi_script.specs.Valid.{IsValid};
+ghost use Rattle.vi_lines.specs.Valid.{IsValid};
 ghost use Rattle.viommu.specs.Accepted.{task_of};
 ghost use Rattle.viommu.specs.Causes.{Rose};
 ghost use Rattle.viommu.specs.Command.{command_in};
@@ -30,7 +30,8 @@ use vi_bytes::Bytes;
 use vi_history::Outcome;
 use vi_make::{load_script_is_accepted, make, summary};
 use vi_run::{Finished, Gate, Opened, run};
-use vi_script::{BadKind, Script, ScriptFault};
+use vi_lines::Script;
+use vi_script::{BadKind, ScriptFault};
 
 /// How a call of the program ended, with the run whose text was written, if there was one.
 #[derive(Drop)]

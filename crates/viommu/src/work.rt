@@ -5,9 +5,9 @@ ghost use Rattle.vi_check.specs.Texts.{verdict_text};
 ghost use Rattle.vi_history.specs.Outcomes.{IsWellMade};
 ghost use Rattle.vi_report.specs.Texts.{text};
 ghost use Rattle.vi_report.specs.Types.{IsTyped};
-ghost use Rattle.vi_script.specs.Fields.{HasFields};
+ghost use Rattle.vi_lines.specs.Fields.{HasFields};
 ghost use Rattle.vi_script.specs.Parsing.{Faults};
-ghost use Rattle.vi_script.specs.Valid.{IsValid};
+ghost use Rattle.vi_lines.specs.Valid.{IsValid};
 ghost use Rattle.viommu.specs.Accepted.{accepts, limit_of};
 ghost use Rattle.viommu.specs.Status.{status_text};
 ghost use Rattle.viommu.specs.Top.{verdict_status};
@@ -24,7 +24,8 @@ use vi_bytes::Bytes;
 use vi_check::{Verdict, check};
 use vi_history::Outcome;
 use vi_report::ReportFault;
-use vi_script::{Script, ScriptFault};
+use vi_lines::Script;
+use vi_script::ScriptFault;
 
 /// A status, and the whole text that is written with it.
 #[derive(Debug, Drop)]

@@ -1,6 +1,6 @@
 use Rattle.std.proofs.Common.{◌≤◌, List, false, fold, length, replicate, ap, subst, ◌∙◌}
-use Rattle.vi_script.specs.declared.line.Line.{Line}
-use Rattle.vi_script.specs.Value.{ScriptValue}
+use Rattle.vi_lines.specs.declared.line.Line.{Line}
+use Rattle.vi_lines.specs.Value.{ScriptValue}
 use Rattle.vi_backend.proofs.Marking.{marked_by_line, all_marked, take_past}
 use Rattle.vi_backend.proofs.lines.awaited_lines.Goals as goal
 

@@ -1,5 +1,5 @@
 use Rattle.std.proofs.Common.{[], sym, ap, subst, ◌∙◌}
-use Rattle.vi_script.specs.Value.{ScriptValue}
+use Rattle.vi_lines.specs.Value.{ScriptValue}
 use Rattle.vi_check.specs.Faults.{bad_faults}
 use Rattle.vi_check.specs.Seen.{Seen, FitsScript, Walked}
 use Rattle.vi_check.specs.Verdicts.{first_finding}

@@ -1,5 +1,5 @@
 use Rattle.std.proofs.Common.{◌≡◌}
-use Rattle.vi_script.specs.Order.{batch_of}
+use Rattle.vi_lines.specs.Order.{batch_of}
 use Rattle.vi_check.proofs.progress.is_one_batch.Given as goal
 
 abbrev pub invariant-loop-line : goal.invariant-loop-line

@@ -1,5 +1,5 @@
 use Rattle.std.proofs.Common.{sym}
-use Rattle.vi_script.proofs.IndexLemmas.{line_of-caller}
+use Rattle.vi_lines.proofs.IndexLemmas.{line_of-caller}
 use Rattle.vi_check.proofs.progress.next_after.Goals as goal
 
 pub parts-parts-requires : goal.parts-parts-requires

@@ -1,6 +1,6 @@
 use Rattle.std.proofs.Common.{◌≡◌, ◌≤◌, take}
 use Rattle.std.specs.List.{count_by}
-use Rattle.vi_script.specs.Calls.{driver_call}
+use Rattle.vi_lines.specs.Calls.{driver_call}
 use Rattle.vi_model.specs.Rooms.{is_map}
 use Rattle.vi_model.specs.Tasks.{task_in}
 use Rattle.vi_control.proofs.counts.count_maps.Given as goal

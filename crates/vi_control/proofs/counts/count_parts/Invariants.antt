@@ -1,6 +1,6 @@
 use Rattle.std.proofs.Common.{◌≡◌, ◌*◌, ◌≤◌, take}
 use Rattle.std.specs.List.{sum_by}
-use Rattle.vi_script.specs.Calls.{parts_of}
+use Rattle.vi_lines.specs.Calls.{parts_of}
 use Rattle.vi_control.proofs.counts.count_parts.Given as goal
 
 abbrev pub invariant-loop-line : goal.invariant-loop-line

@@ -1,6 +1,6 @@
 use Rattle.std.proofs.Common.{◌≡◌, ◌+◌, ◌*◌, ◌≤◌, take}
 use Rattle.std.specs.List.{sum_by}
-use Rattle.vi_script.specs.Limits.{bytes_in}
+use Rattle.vi_lines.specs.Limits.{bytes_in}
 use Rattle.vi_core.specs.HistoryRoom.{answer_bytes}
 use Rattle.vi_core.proofs.room.byte_room.Given as goal
 

@@ -1,5 +1,5 @@
 use Rattle.std.proofs.Common.{◌≡◌, ◌++◌, take, map}
-use Rattle.vi_script.specs.declared.line.Who.TheVariants as who
+use Rattle.vi_lines.specs.declared.line.Who.TheVariants as who
 use Rattle.vi_core.proofs.round.push_backs.Given as goal
 
 abbrev pub invariant-loop-endpoint : goal.invariant-loop-endpoint

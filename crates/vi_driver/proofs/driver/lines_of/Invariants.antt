@@ -1,6 +1,6 @@
 use Rattle.std.proofs.Common.{◌≡◌, take}
 use Rattle.std.specs.List.{filter}
-use Rattle.vi_script.specs.Calls.{same_caller}
+use Rattle.vi_lines.specs.Calls.{same_caller}
 use Rattle.vi_driver.proofs.driver.lines_of.Given as goal
 
 abbrev pub invariant-loop-line : goal.invariant-loop-line

@@ -1,6 +1,6 @@
 use Rattle.std.proofs.Common.{ℕ, ◌≤◌, ◌<◌, length, sym, subst}
 use Rattle.vi_history.specs.declared.entry.Entry.{Entry}
-use Rattle.vi_script.specs.Value.{ScriptValue}
+use Rattle.vi_lines.specs.Value.{ScriptValue}
 use Rattle.vi_control.specs.Value.{entry_with}
 use Rattle.vi_run.proofs.LogRoom.{FindsRoom}
 use Rattle.vi_run.proofs.Reaching.{Reaches, page_inside, reach_wish, reach_makes, reach_room, reach_due, reach_turned, reach_plays, one_stamped}

@@ -1,6 +1,6 @@
 use Rattle.std.proofs.Common.{ℕ, ◌≤◌, length, sym, ap, subst, ◌∙◌}
 use Rattle.vi_history.specs.declared.entry.Entry.{Entry}
-use Rattle.vi_script.specs.declared.line.Who.TheVariants as who
+use Rattle.vi_lines.specs.declared.line.Who.TheVariants as who
 use Rattle.vi_control.specs.Value.{ControlValue, entry_with}
 use Rattle.vi_run.specs.Taking.{word_for}
 use Rattle.vi_run.proofs.LogRoom.{FindsRoom}

@@ -1,5 +1,5 @@
 use Rattle.std.proofs.Common.{sym, ap, ◌∙◌}
-use Rattle.vi_script.specs.declared.line.Who.TheVariants as who
+use Rattle.vi_lines.specs.declared.line.Who.TheVariants as who
 use Rattle.vi_turns.specs.Views.{gave_back}
 use Rattle.vi_run.specs.Taking.{word_for}
 use Rattle.vi_run.proofs.Won.{busy_turned}

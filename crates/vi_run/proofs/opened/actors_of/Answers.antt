@@ -1,6 +1,6 @@
 use Rattle.std.proofs.Common.{◌+◌, ℕ, List, length, slice_index_or, ap, sym, ◌∙◌, subst, arith, rules}
-use Rattle.vi_script.specs.declared.line.Who.{Who}
-use Rattle.vi_script.specs.declared.line.Who.TheVariants as who
+use Rattle.vi_lines.specs.declared.line.Who.{Who}
+use Rattle.vi_lines.specs.declared.line.Who.TheVariants as who
 use Rattle.vi_turns.specs.Views.{split_left, split_right}
 use Rattle.vi_turns.specs.declared.view.View.{View}
 use Rattle.vi_run.specs.Actors.{ActorValue}

@@ -1,7 +1,7 @@
 use Rattle.std.proofs.Common.{ap, ◌∙◌}
 use Rattle.std.proofs.lemmas.Result.{IfOk-weaker}
-use Rattle.vi_script.specs.Value.{ScriptValue}
-use Rattle.vi_script.proofs.TransferLemmas.{HasTransfers-from_valid}
+use Rattle.vi_lines.specs.Value.{ScriptValue}
+use Rattle.vi_lines.proofs.TransferLemmas.{HasTransfers-from_valid}
 use Rattle.vi_run.specs.Roles.{HasRoomFor}
 use Rattle.vi_run.proofs.Opening.{log_room}
 use Rattle.vi_run.proofs.opened.log_for.Goals as goal

@@ -1,6 +1,6 @@
 use Rattle.std.proofs.Common.{◌≡◌, ap, sym, ◌∙◌, Some, rules}
 use Rattle.std.proofs.lemmas.Option.{same_Some}
-use Rattle.vi_script.specs.Value.{ScriptValue}
+use Rattle.vi_lines.specs.Value.{ScriptValue}
 use Rattle.vi_model.specs.Places.{place_of}
 use Rattle.vi_run.proofs.Opening.{first_place}
 use Rattle.vi_run.proofs.opened.place_of.Goals as goal

@@ -1,4 +1,4 @@
-use Rattle.vi_script.proofs.TransferLemmas.{HasTransfers-from_valid}
+use Rattle.vi_lines.proofs.TransferLemmas.{HasTransfers-from_valid}
 use Rattle.vi_run.proofs.Opening.{new_driver, new_back}
 use Rattle.vi_run.proofs.opened.role_of.Goals as goal
 

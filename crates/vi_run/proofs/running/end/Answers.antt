@@ -1,7 +1,7 @@
 use Rattle.std.proofs.Common.{List, ◌∷◌, length, ap, sym, ◌∙◌, subst, arith, rules}
 use Rattle.std.specs.Vec.Iter.{into_iter_items}
 use Rattle.std.proofs.lemmas.List.{nil_from_length}
-use Rattle.vi_history.specs.Logs.{LogValue}
+use Rattle.vi_log.specs.Logs.{LogValue}
 use Rattle.vi_turns.specs.Passes.{PassValue, log_of}
 use Rattle.vi_turns.specs.Views.{joined}
 use Rattle.vi_turns.specs.declared.view.View.{View}

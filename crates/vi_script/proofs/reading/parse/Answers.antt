@@ -3,7 +3,7 @@ use Rattle.vi_script.specs.Texts.{said_from}
 use Rattle.vi_script.proofs.FieldLemmas.{HasFields-script_of}
 use Rattle.vi_script.proofs.ReadingLemmas.{script-refused, script-read}
 use Rattle.vi_script.proofs.SoundLemmas.{script-valid}
-use Rattle.vi_script.proofs.TransferLemmas.{HasTransfers-from_valid}
+use Rattle.vi_lines.proofs.TransferLemmas.{HasTransfers-from_valid}
 use Rattle.vi_script.proofs.reading.parse.Goals as goal
 
 pub returns-in-Err-clause-read : goal.returns-in-Err-clause-read

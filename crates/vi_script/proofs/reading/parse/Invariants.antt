@@ -1,6 +1,6 @@
 use Rattle.std.proofs.Common.{◌≡◌, ◌+◌, ◌≤◌, length}
 use Rattle.vi_words.specs.Words.{lines_of_text}
-use Rattle.vi_script.specs.Fields.{LinesFit}
+use Rattle.vi_lines.specs.Fields.{LinesFit}
 use Rattle.vi_script.specs.Said.{nothing_said}
 use Rattle.vi_script.specs.Texts.{said_from}
 use Rattle.vi_script.proofs.reading.parse.Given as goal

@@ -1,7 +1,7 @@
 use Rattle.std.proofs.Common.{◌≡◌, subst, MatchResult, Result, Ok}
 use Rattle.vi_script.specs.Parsing.{Faults}
 use Rattle.vi_script.specs.Texts.{Bad}
-use Rattle.vi_script.specs.Value.{ScriptValue}
+use Rattle.vi_lines.specs.Value.{ScriptValue}
 use Rattle.viommu.proofs.JudgedLemmas.{script_cut, script_uncut}
 use Rattle.viommu.proofs.judged.judged.Goals as goal
 

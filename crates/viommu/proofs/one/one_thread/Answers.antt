@@ -1,8 +1,8 @@
 use Rattle.std.proofs.Common.{◌≡◌, ℕ, ◌+◌, List, [], length, take, drop, if◌then◌else◌, refl, sym, ◌∙◌, ap, arith}
-use Rattle.vi_script.specs.Judging.{count_lines}
-use Rattle.vi_script.specs.Value.{ScriptValue}
-use Rattle.vi_script.specs.Calls.{same_caller}
-use Rattle.vi_script.specs.declared.line.Line.{Line}
+use Rattle.vi_lines.specs.Rules.{count_lines}
+use Rattle.vi_lines.specs.Value.{ScriptValue}
+use Rattle.vi_lines.specs.Calls.{same_caller}
+use Rattle.vi_lines.specs.declared.line.Line.{Line}
 use Rattle.viommu.specs.OneThread.{Replied, one_thread, with_line, with_lines, nothing_replied, outcome_of}
 use Rattle.viommu.proofs.OneLemmas.{with_lines-next, with_lines-end, count_lines-next, count_lines-le}
 use Rattle.viommu.proofs.TakenLemmas.{IsTaken-among, IsPlainSetup-from_valid}

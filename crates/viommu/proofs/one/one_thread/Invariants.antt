@@ -1,6 +1,6 @@
 use Rattle.std.proofs.Common.{◌≡◌, ◌*◌, ◌≤◌, [], length, take, drop}
 use Rattle.vi_history.specs.declared.call.Caller.{Caller}
-use Rattle.vi_script.specs.Judging.{count_lines}
+use Rattle.vi_lines.specs.Rules.{count_lines}
 use Rattle.viommu.specs.Counts.{number_for}
 use Rattle.viommu.specs.OneThread.{with_lines}
 use Rattle.viommu.proofs.one.one_thread.Given as goal

@@ -1,4 +1,4 @@
-use Rattle.vi_model.proofs.Playable.{valid_is_playable}
+use Rattle.vi_sound.proofs.Playable.{valid_is_playable}
 use Rattle.viommu.proofs.WorkLemmas.{answers-sims}
 use Rattle.viommu.proofs.work.sim.Goals as goal
 

@@ -3,7 +3,7 @@ use Rattle.std.proofs.lemmas.List.{at_drop_all}
 use Rattle.std.specs.Option.{option_or}
 use Rattle.vi_bytes.specs.declared.region.EndpointSetup.{EndpointSetup}
 use Rattle.vi_history.specs.declared.call.Caller.TheVariants.{Back}
-use Rattle.vi_script.specs.Value.{ScriptValue}
+use Rattle.vi_lines.specs.Value.{ScriptValue}
 use Rattle.vi_check.specs.Seen.{first_missing_in}
 use Rattle.vi_check.proofs.MissingLemmas.{backs_next}
 use Rattle.vi_check.proofs.progress.Progress.missing_of_backs.Goals as goal

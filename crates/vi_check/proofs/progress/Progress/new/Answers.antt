@@ -1,8 +1,8 @@
 use Rattle.std.proofs.Common.{◌≡◌, ◌≤◌, ℕ, false, length, replicate, refl, ap, ◌∙◌, arith, take_all}
 use Rattle.std.proofs.lemmas.List.FromFn.{map-range_with_len_more}
 use Rattle.vi_history.specs.declared.call.Caller.TheVariants.{Driver}
-use Rattle.vi_script.specs.Calls.{lines_of}
-use Rattle.vi_script.specs.Value.{ScriptValue}
+use Rattle.vi_lines.specs.Calls.{lines_of}
+use Rattle.vi_lines.specs.Value.{ScriptValue}
 use Rattle.vi_check.proofs.progress.Progress.new.Goals as goal
 
 pub loop-number-preserved : goal.loop-number-preserved

@@ -1,7 +1,7 @@
 use Rattle.std.proofs.Common.{◌≡◌, false, length, map, replicate, take}
 use Rattle.std.specs.List.{range_with_len}
 use Rattle.vi_history.specs.declared.call.Caller.TheVariants.{Driver}
-use Rattle.vi_script.specs.Calls.{lines_of}
+use Rattle.vi_lines.specs.Calls.{lines_of}
 use Rattle.vi_check.proofs.progress.Progress.new.Given as goal
 
 abbrev pub invariant-loop-number : goal.invariant-loop-number

@@ -1,6 +1,6 @@
 use Rattle.std.proofs.Common.{[], take, sym, ap, subst, ◌∙◌}
 use Rattle.std.proofs.lemmas.List.{at_drop_all}
-use Rattle.vi_script.specs.Order.{IsOrderedSoFar}
+use Rattle.vi_lines.specs.Order.{IsOrderedSoFar}
 use Rattle.vi_check.specs.Seen.{walked_of}
 use Rattle.vi_check.specs.Verdicts.{first_finding}
 use Rattle.vi_check.proofs.TrackedLemmas.{AreDue-push}

@@ -1,5 +1,5 @@
 use Rattle.std.proofs.Common.{◌≡◌, [], take, drop}
-use Rattle.vi_script.specs.Order.{IsOrderedSoFar}
+use Rattle.vi_lines.specs.Order.{IsOrderedSoFar}
 use Rattle.vi_check.specs.Seen.{walked_of}
 use Rattle.vi_check.specs.Verdicts.{first_finding}
 use Rattle.vi_check.proofs.walk.Walk.first_finding.Given as goal

@@ -1,7 +1,7 @@
 use Rattle.std.proofs.Common.{[], sym, ap, subst, ◌∙◌}
 use Rattle.vi_history.specs.Start.{start}
 use Rattle.vi_plain.specs.Conditions.{IsPlainSetup}
-use Rattle.vi_script.specs.Value.{ScriptValue}
+use Rattle.vi_lines.specs.Value.{ScriptValue}
 use Rattle.vi_check.specs.Seen.{nothing_seen}
 use Rattle.vi_check.proofs.WalkLemmas.{IsPlainSetup-from_valid, walked_of-none}
 use Rattle.vi_check.proofs.walk.Walk.new.Goals as goal

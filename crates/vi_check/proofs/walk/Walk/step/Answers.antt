@@ -1,7 +1,7 @@
 use Rattle.std.proofs.Common.{◌≡◌, None, sym, ap, subst, ◌∙◌}
 use Rattle.std.specs.Prelude.{IfOk}
-use Rattle.vi_script.specs.Order.{IsDue}
-use Rattle.vi_script.proofs.TransferLemmas.{HasTransfers-from_valid}
+use Rattle.vi_lines.specs.Order.{IsDue}
+use Rattle.vi_lines.proofs.TransferLemmas.{HasTransfers-from_valid}
 use Rattle.vi_check.specs.Seen.{Seen, FitsScript, Walked}
 use Rattle.vi_check.proofs.CallLemmas.{good}
 use Rattle.vi_check.proofs.SeenLemmas.{FitsScript-seen}

@@ -1,6 +1,6 @@
 use Rattle.std.proofs.Common.{refl, ap, sym, ◌∙◌, length, map, replicate, [], arith}
 use Rattle.vi_bytes.specs.declared.region.EndpointSetup.{EndpointSetup}
-use Rattle.vi_script.proofs.TransferLemmas.{HasTransfers-from_valid}
+use Rattle.vi_lines.proofs.TransferLemmas.{HasTransfers-from_valid}
 use Rattle.vi_control.proofs.Setups.{setup_of, ring_size, granule_size, jobs_of}
 use Rattle.vi_control.proofs.Planned.{plan_made, state_made, rows_made, kept_made}
 use Rattle.vi_control.proofs.control.Control.build.Goals as goal

@@ -3,7 +3,7 @@ use Rattle.vi_device.specs.Values as device
 use Rattle.vi_lanes.specs.Frames.{said}
 use Rattle.vi_model.specs.Control.{link_of}
 use Rattle.vi_model.specs.Places.{id_at}
-use Rattle.vi_script.specs.Value.{ScriptValue}
+use Rattle.vi_lines.specs.Value.{ScriptValue}
 use Rattle.vi_control.specs.Inner.{seen}
 use Rattle.vi_control.specs.Places.{id_in}
 use Rattle.vi_control.specs.Plan.{plan_of}

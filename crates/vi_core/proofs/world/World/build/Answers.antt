@@ -1,6 +1,6 @@
 use Rattle.std.proofs.Common.{ap, ap₂, ◌∙◌}
-use Rattle.vi_script.specs.Value.{ScriptValue}
-use Rattle.vi_script.proofs.TransferLemmas.{HasTransfers-from_valid}
+use Rattle.vi_lines.specs.Value.{ScriptValue}
+use Rattle.vi_lines.proofs.TransferLemmas.{HasTransfers-from_valid}
 use Rattle.vi_core.specs.Parts.{Parts, running}
 use Rattle.vi_core.proofs.OpenedWorld.{is_built, opened_kept, opened_running}
 use Rattle.vi_core.proofs.world.World.build.Goals as goal

@@ -1,5 +1,5 @@
 use Rattle.std.proofs.Common.{ap₂, sym, ◌∙◌, get_or}
-use Rattle.vi_script.specs.declared.line.Who.TheVariants as who
+use Rattle.vi_lines.specs.declared.line.Who.TheVariants as who
 use Rattle.vi_model.specs.Turns.{Turn, turn}
 use Rattle.vi_core.proofs.Ran.{run_next}
 use Rattle.vi_core.proofs.world.World.run.Goals as goal

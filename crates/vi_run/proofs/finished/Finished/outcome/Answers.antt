@@ -1,6 +1,6 @@
 use Rattle.std.proofs.Common.{ℕ, List, subst, sym}
 use Rattle.std.proofs.lemmas.Result.{IfOk-weaker}
-use Rattle.vi_history.specs.Logs.{LogValue, AreTicketed, IsMerged}
+use Rattle.vi_log.specs.Logs.{LogValue, AreTicketed, IsMerged}
 use Rattle.vi_history.specs.Outcomes.{IsWellMade}
 use Rattle.vi_run.specs.Runs.{FinishedValue, CameTo}
 use Rattle.vi_run.proofs.Outcome.{ticketed, few_entries, came_to, came_made}

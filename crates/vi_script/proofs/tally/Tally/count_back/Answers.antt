@@ -1,9 +1,9 @@
 use Rattle.std.proofs.Common.{length, ap, ◌∙◌, arith}
 use Rattle.vi_history.specs.declared.call.Caller.TheVariants.{Back}
-use Rattle.vi_script.specs.declared.line.Line.{Line}
-use Rattle.vi_script.specs.Calls.{same_caller}
-use Rattle.vi_script.specs.Index.{row_places}
-use Rattle.vi_script.proofs.IndexLemmas.{length-filter-le}
+use Rattle.vi_lines.specs.declared.line.Line.{Line}
+use Rattle.vi_lines.specs.Calls.{same_caller}
+use Rattle.vi_lines.specs.Index.{row_places}
+use Rattle.vi_lines.proofs.IndexLemmas.{length-filter-le}
 use Rattle.vi_script.proofs.TallyLemmas.{lines_counted, no_lines, no_back}
 use Rattle.vi_script.proofs.tally.Tally.count_back.Goals as goal
 

@@ -1,7 +1,7 @@
 use Rattle.std.proofs.Common.{◌≡◌, ◌≤◌, ◌<◌, ◌+◌, length, refl, sym, subst, ◌∙◌, arith, length-append}
-use Rattle.vi_script.specs.declared.line.Line.{Line}
-use Rattle.vi_script.specs.Limits.{transferred, bytes_in}
-use Rattle.vi_script.specs.Index.{AreRows}
+use Rattle.vi_lines.specs.declared.line.Line.{Line}
+use Rattle.vi_lines.specs.Limits.{transferred, bytes_in}
+use Rattle.vi_lines.specs.Index.{AreRows}
 use Rattle.vi_script.proofs.TallyLemmas.{AreRows_push, bytes_in_push, have_callers_push, driver-from_caller, table_push, table_small}
 use Rattle.vi_script.proofs.tally.Tally.with.Goals as goal
 

@@ -1,6 +1,6 @@
 use Rattle.std.proofs.Common.{◌≡◌, ℕ, ◌+◌, Some, None, refl, sym, arith, ◌∙◌, ap}
 use Rattle.std.specs.Prelude.{position}
-use Rattle.vi_script.specs.Calls.{same_caller}
+use Rattle.vi_lines.specs.Calls.{same_caller}
 use Rattle.viommu.proofs.CountLemmas.{number_for-found, number_for-none, number_for-set, number_for-push}
 use Rattle.viommu.proofs.counts.Counts.next.Goals as goal
 

@@ -1,6 +1,6 @@
 use Rattle.std.proofs.Common.{sym, ◌∙◌, arith}
 use Rattle.viommu.proofs.OneLemmas.{with_parts-next}
-use Rattle.vi_script.specs.Calls.{parts_of}
+use Rattle.vi_lines.specs.Calls.{parts_of}
 use Rattle.viommu.proofs.course.Course.parts.Goals as goal
 
 pub loop-part-preserved : goal.loop-part-preserved

@@ -1,6 +1,6 @@
 use Rattle.std.proofs.Common.{◌≡◌, ◌+◌, ◌≤◌, ◌-◌, length}
 use Rattle.viommu.specs.OneThread.{with_parts}
-use Rattle.vi_script.specs.Calls.{parts_of}
+use Rattle.vi_lines.specs.Calls.{parts_of}
 use Rattle.viommu.proofs.course.Course.parts.Given as goal
 
 abbrev pub invariant-loop-part : goal.invariant-loop-part

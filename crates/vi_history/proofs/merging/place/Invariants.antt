@@ -1,6 +1,0 @@
-use Rattle.std.proofs.Common.{◌≡◌}
-use Rattle.vi_history.specs.Logs.{filled}
-use Rattle.vi_history.proofs.merging.place.Given as goal
-
-abbrev pub invariant-loop : goal.invariant-loop
-invariant-loop l = l.history.items ≡ filled l.fn.history.items l.counter

@@ -1,0 +1,10 @@
+pub mod Value
+pub mod Calls
+pub mod Index
+pub mod Order
+pub mod Ordered
+pub mod Legal
+pub mod Limits
+pub mod Rules
+pub mod Valid
+pub mod Fields

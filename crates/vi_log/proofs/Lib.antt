@@ -1,0 +1,3 @@
+mod LogsKeeping
+pub mod LogsMerging
+pub mod LogsPlacing

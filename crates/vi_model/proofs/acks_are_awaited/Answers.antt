@@ -1,5 +1,0 @@
-use Rattle.vi_model.proofs.Room as laws
-use Rattle.vi_model.proofs.acks_are_awaited.Goals as goal
-
-pub returns : goal.returns
-returns c = laws.acks_are_awaited

@@ -1,5 +1,0 @@
-use Rattle.vi_model.proofs.Laws as laws
-use Rattle.vi_model.proofs.control_keeps_sound.Goals as goal
-
-pub returns : goal.returns
-returns c = laws.control_keeps_sound

@@ -1,5 +1,0 @@
-use Rattle.vi_model.proofs.Tested as laws
-use Rattle.vi_model.proofs.finished_has_finished.Goals as goal
-
-pub returns : goal.returns
-returns c = laws.finished_has_finished

@@ -1,5 +1,0 @@
-use Rattle.vi_model.proofs.Room as laws
-use Rattle.vi_model.proofs.mappings_are_whole.Goals as goal
-
-pub returns : goal.returns
-returns c = laws.mappings_are_whole

@@ -1,5 +1,0 @@
-use Rattle.vi_model.proofs.Ended as laws
-use Rattle.vi_model.proofs.only_moved_changes.Goals as goal
-
-pub returns : goal.returns
-returns c = laws.only_moved_changes

@@ -1,5 +1,0 @@
-use Rattle.vi_model.proofs.Room as laws
-use Rattle.vi_model.proofs.open_calls_fit.Goals as goal
-
-pub returns : goal.returns
-returns c = laws.open_calls_fit

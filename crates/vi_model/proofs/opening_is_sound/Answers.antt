@@ -1,5 +1,0 @@
-use Rattle.vi_model.proofs.Laws as laws
-use Rattle.vi_model.proofs.opening_is_sound.Goals as goal
-
-pub returns : goal.returns
-returns c = laws.opening_is_sound

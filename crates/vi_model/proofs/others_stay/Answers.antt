@@ -1,5 +1,0 @@
-use Rattle.vi_model.proofs.Laws as laws
-use Rattle.vi_model.proofs.others_stay.Goals as goal
-
-pub returns : goal.returns
-returns c = laws.others_stay

@@ -1,5 +1,0 @@
-use Rattle.vi_model.proofs.Delivered as laws
-use Rattle.vi_model.proofs.records_are_shown_well.Goals as goal
-
-pub returns : goal.returns
-returns c = laws.records_are_shown_well

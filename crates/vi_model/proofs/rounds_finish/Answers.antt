@@ -1,5 +1,0 @@
-use Rattle.vi_model.proofs.Finishes as laws
-use Rattle.vi_model.proofs.rounds_finish.Goals as goal
-
-pub returns : goal.returns
-returns c = laws.rounds_are_enough

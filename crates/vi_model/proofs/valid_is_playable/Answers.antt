@@ -1,5 +1,0 @@
-use Rattle.vi_model.proofs.Playable as laws
-use Rattle.vi_model.proofs.valid_is_playable.Goals as goal
-
-pub returns : goal.returns
-returns c = laws.valid_is_playable

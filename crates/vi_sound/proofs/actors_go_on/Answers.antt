@@ -1,0 +1,5 @@
+use Rattle.vi_sound.proofs.Owns as laws
+use Rattle.vi_sound.proofs.actors_go_on.Goals as goal
+
+pub returns : goal.returns
+returns c = laws.actors_go_on

@@ -1,0 +1,5 @@
+use Rattle.vi_sound.proofs.Tested as laws
+use Rattle.vi_sound.proofs.finished_has_finished.Goals as goal
+
+pub returns : goal.returns
+returns c = laws.finished_has_finished

@@ -1,0 +1,5 @@
+use Rattle.vi_sound.proofs.Taken as laws
+use Rattle.vi_sound.proofs.finished_is_taken.Goals as goal
+
+pub returns : goal.returns
+returns c = laws.finished_is_taken

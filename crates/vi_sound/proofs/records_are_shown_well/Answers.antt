@@ -1,0 +1,5 @@
+use Rattle.vi_sound.proofs.Delivered as laws
+use Rattle.vi_sound.proofs.records_are_shown_well.Goals as goal
+
+pub returns : goal.returns
+returns c = laws.records_are_shown_well

@@ -1,0 +1,5 @@
+use Rattle.vi_sound.proofs.Finishes as laws
+use Rattle.vi_sound.proofs.rounds_finish.Goals as goal
+
+pub returns : goal.returns
+returns c = laws.rounds_are_enough
