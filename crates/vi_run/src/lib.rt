@@ -12,8 +12,6 @@ mod ran;
 mod reader;
 mod role;
 mod running;
-#[cfg(test)]
-mod tests;
 mod waiting;
 
 pub use actor::Actor;
@@ -23,3 +21,4 @@ pub use ran::Ran;
 pub use role::Role;
 pub use running::run;
 pub use vi_core::{Free, Gate, Point};
+pub use waiting::{Round, Waiting};

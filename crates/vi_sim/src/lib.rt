@@ -5,7 +5,5 @@
 mod draw;
 mod schedule;
 
+pub use draw::next_draw;
 pub use schedule::sim;
-
-#[cfg(test)]
-mod tests;

@@ -1,0 +1,12 @@
+pub mod AcceptedLemmas
+pub mod CommandLemmas
+pub mod EndLemmas
+pub mod KnownBytesLemmas
+pub mod Moved
+pub mod Numerals
+pub mod WorkLemmas
+pub mod TakenLemmas
+pub mod ReplyLemmas
+pub mod OneLemmas
+pub mod CountLemmas
+pub mod JudgedLemmas

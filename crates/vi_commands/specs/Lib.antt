@@ -1,0 +1,17 @@
+pub mod Causes
+pub mod Command
+pub mod Input
+pub mod ListSink
+pub mod ListSource
+pub mod Output
+pub mod Standard
+pub mod Status
+pub mod Top
+pub mod Words
+pub mod Work
+pub mod Counts
+pub mod Made
+pub mod OneThread
+pub mod Accepted
+pub mod Judged
+pub mod Cuts

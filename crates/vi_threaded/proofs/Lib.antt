@@ -1,0 +1,3 @@
+pub mod ThreadLemmas
+pub mod RunLemmas
+pub mod LoadLemmas

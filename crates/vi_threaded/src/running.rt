@@ -1,0 +1,293 @@
+//! The commands that run threads, and the program as one call with them.
+ghost use Rattle.std.specs.Prelude.{◌≡◌, ◌≤◌, ◌⊎◌, ℕ, List, length, Ok, Some, None, IfOk};
+ghost use Rattle.std.specs.declared.option.Option.{Option};
+ghost use Rattle.std.specs.Io.KnownBytes.{Appends, Keeps};
+ghost use Rattle.vi_lines.specs.Fields.{HasFields};
+ghost use Rattle.vi_script.specs.Texts as texts;
+ghost use Rattle.vi_lines.specs.Valid.{IsValid};
+ghost use Rattle.vi_commands.specs.Accepted.{task_of};
+ghost use Rattle.vi_commands.specs.Causes.{Rose};
+ghost use Rattle.vi_commands.specs.Command.{command_in};
+ghost use Rattle.vi_commands.specs.Input.{ReadsAll};
+ghost use Rattle.vi_commands.specs.Output.{TakesProperPrefix};
+ghost use Rattle.vi_threaded.specs.Running.{EndsRun, IsRunRefused, IsRunTooLong, IsRunWithin, RanTo, ReportsRun, Summarizes, WritesRun, WritesSummary};
+ghost use Rattle.vi_commands.specs.Status.{bad_script_text};
+ghost use Rattle.vi_threaded.specs.Threads.{IsThreaded, threaded_in};
+ghost use Rattle.vi_commands.specs.Top.{Ends, IsFault, Writes};
+ghost use Rattle.vi_commands.specs.declared.command.Task.{Task};
+ghost use Rattle.vi_commands.specs.declared.top.TheConstants.{INPUT_LIMIT};
+
+use crate::threaded::Threaded;
+use std::alloc::{AllocError, Global};
+use std::sync::Wait;
+use std::thread::Threads;
+use vi_bytes::Bytes;
+use vi_commands::{
+    INPUT_LIMIT, InputFault, Sink, Source, Status, TOO_LONG, deliver, plain_top, read_input,
+};
+use vi_history::Outcome;
+use vi_lines::Script;
+use vi_make::{load_script_is_accepted, make, summary};
+use vi_run::{Finished, Gate, Opened, run};
+use vi_script::{BadKind, ScriptFault};
+
+/// How a call of the program ended, with the run whose text was written, if there was one.
+#[derive(Drop)]
+pub struct Ended {
+    pub status: Status,
+    pub run: Option<Finished>,
+}
+
+/// Does what the words say, as `plain_top`, and `run W` and `load N W` too. What they print is the outcome of a run on
+/// threads, and is so whatever the interleaving of the threads' atomic steps.
+pub fn top<R: Threads + Wait + Sync, S: Source, K: Sink, G: Gate + Sync>(
+    rt: &R,
+    alloc: Global,
+    words: &[String],
+    source: &mut S,
+    sink: &mut K,
+    gate: &G,
+) -> Ended
+    // `run W`: with Ok the source was read to its end, the bytes are a script, and the sink took the report of a run of that script,
+    // whose history is in order and legal; the run is handed back, and its own logs have that history.
+    ensures run { (workers : ℕ) → threaded_in words.now ≡ Some (Threaded.Run workers) → result.status ≡ Status.Ok → WritesRun
+        (record { left = S.left source.old; read_faults = S.faults source.old; taken = K.taken sink.old; write_faults = K.faults sink.old })
+        (record { left = S.left source.new; read_faults = S.faults source.new; taken = K.taken sink.new; write_faults = K.faults sink.new }) result.run }
+    ensures accepted { (workers : ℕ) → threaded_in words.now ≡ Some (Threaded.Run workers) → IsRunWithin (S.left source.old) result.status }
+    ensures refused { (workers : ℕ) → threaded_in words.now ≡ Some (Threaded.Run workers) → IsRunRefused (S.left source.old) result.status }
+    ensures too_long { (workers : ℕ) → threaded_in words.now ≡ Some (Threaded.Run workers) → IsRunTooLong (S.left source.old) result.status }
+
+    // `load N W`: with Ok the sink took the summary of a run of the load script of N rounds.
+    ensures load { (rounds workers : ℕ) → threaded_in words.now ≡ Some (Threaded.Load rounds workers) → result.status ≡ Status.Ok → WritesSummary rounds
+        (record { left = S.left source.old; read_faults = S.faults source.old; taken = K.taken sink.old; write_faults = K.faults sink.old })
+        (record { left = S.left source.new; read_faults = S.faults source.new; taken = K.taken sink.new; write_faults = K.faults sink.new }) result.run }
+    ensures load_always { (rounds workers : ℕ) → threaded_in words.now ≡ Some (Threaded.Load rounds workers) → (result.status ≡ Status.Ok) ⊎ IsFault result.status }
+    ensures load_reads_nothing { (rounds workers : ℕ) → threaded_in words.now ≡ Some (Threaded.Load rounds workers) → source.new ≡ source.old }
+
+    // With every status, what was due, what the sink took, and which run is handed back.
+    ensures ends { (form : Threaded) → threaded_in words.now ≡ Some form → EndsRun form
+        (record { left = S.left source.old; read_faults = S.faults source.old; taken = K.taken sink.old; write_faults = K.faults sink.old })
+        (record { left = S.left source.new; read_faults = S.faults source.new; taken = K.taken sink.new; write_faults = K.faults sink.new })
+        result.run result.status }
+
+    // The words are none of the forms exactly where the status is Usage, unless writing its text fails.
+    ensures usage { result.status ≡ Status.Usage → (command_in words.now ≡ None) × (threaded_in words.now ≡ None) }
+    ensures usage_always { command_in words.now ≡ None → threaded_in words.now ≡ None → (result.status ≡ Status.Usage) ⊎ (result.status ≡ Status.WriteFault) }
+
+    // The other words: as `plain_top`, and no run.
+    ensures plain { threaded_in words.now ≡ None → Ends (command_in words.now)
+        (record { left = S.left source.old; read_faults = S.faults source.old; taken = K.taken sink.old; write_faults = K.faults sink.old })
+        (record { left = S.left source.new; read_faults = S.faults source.new; taken = K.taken sink.new; write_faults = K.faults sink.new })
+        result.status }
+    ensures plain_ok { (task : Task) → threaded_in words.now ≡ None → task_of (command_in words.now) ≡ Some task → result.status ≡ Status.Ok → Writes task
+        (S.left source.old) (S.left source.new) (K.taken sink.old) (K.taken sink.new) }
+    ensures no_run { threaded_in words.now ≡ None → result.run ≡ None }
+
+    ensures read_faults { S.faults source.old ≤ S.faults source.new }
+    ensures write_faults { K.faults sink.old ≤ K.faults sink.new }
+{
+    match Threaded::parse(words) {
+        None => without_run(plain_top(alloc, words, source, sink)),
+        Some(form) => run_form(rt, alloc, form, source, sink, gate),
+    }
+}
+
+/// A status without a run.
+fn without_run(ended: Status) -> Ended
+    ensures { (result.status ≡ ended) × (result.run ≡ None) }
+{
+    Ended {
+        status: ended,
+        run: None,
+    }
+}
+
+/// A status with its run.
+fn with_run(finished: Finished, ended: Status) -> Ended
+    ensures { (result.status ≡ ended) × (result.run ≡ Some finished) }
+{
+    Ended {
+        status: ended,
+        run: Some(finished),
+    }
+}
+
+/// Does what a form that runs threads says.
+fn run_form<R: Threads + Wait + Sync, S: Source, K: Sink, G: Gate + Sync>(
+    rt: &R,
+    alloc: Global,
+    form: Threaded,
+    source: &mut S,
+    sink: &mut K,
+    gate: &G,
+) -> Ended
+    requires { IsThreaded form }
+    ensures ends { EndsRun form
+        (record { left = S.left source.old; read_faults = S.faults source.old; taken = K.taken sink.old; write_faults = K.faults sink.old })
+        (record { left = S.left source.new; read_faults = S.faults source.new; taken = K.taken sink.new; write_faults = K.faults sink.new })
+        result.run result.status }
+    ensures unread { (rounds workers : ℕ) → form ≡ Threaded.Load rounds workers → source.new ≡ source.old }
+    ensures read_count { S.faults source.old ≤ S.faults source.new }
+    ensures write_count { K.faults sink.old ≤ K.faults sink.new }
+{
+    match form {
+        Threaded::Run { workers } => run_input(rt, alloc, workers, source, sink, gate),
+        Threaded::Load { rounds, workers } => run_load(rt, alloc, rounds, workers, sink, gate),
+    }
+}
+
+/// `run W`: reads a script, runs it, and writes the report.
+fn run_input<R: Threads + Wait + Sync, S: Source, K: Sink, G: Gate + Sync>(
+    rt: &R,
+    alloc: Global,
+    workers: u32,
+    source: &mut S,
+    sink: &mut K,
+    gate: &G,
+) -> Ended
+    requires { (1 ≤ workers) × (workers ≤ 16) }
+    ensures ends { EndsRun (Threaded.Run workers)
+        (record { left = S.left source.old; read_faults = S.faults source.old; taken = K.taken sink.old; write_faults = K.faults sink.old })
+        (record { left = S.left source.new; read_faults = S.faults source.new; taken = K.taken sink.new; write_faults = K.faults sink.new })
+        result.run result.status }
+    ensures read_count { S.faults source.old ≤ S.faults source.new }
+    ensures write_count { K.faults sink.old ≤ K.faults sink.new }
+{
+    let input = match read_input(alloc, source, INPUT_LIMIT) {
+        Ok(input) => input,
+        Err(InputFault::TooLong) => return without_run(deliver(sink, Status::TooLong, TOO_LONG)),
+        Err(InputFault::ReadFault) => return without_run(Status::ReadFault),
+        Err(InputFault::OutOfMemory) => return without_run(Status::OutOfMemory),
+    };
+    match vi_script::parse(alloc, input.as_slice()) {
+        Ok(script) => report_run(rt, alloc, script, workers, sink, gate),
+        Err(ScriptFault::Bad { line, kind }) => without_run(refuse(alloc, line, kind, sink)),
+        Err(ScriptFault::OutOfMemory) => without_run(Status::OutOfMemory),
+    }
+}
+
+/// Writes where a script is refused, and why. An error of memory is a status.
+fn refuse<K: Sink>(alloc: Global, line: u32, kind: BadKind, sink: &mut K) -> Status
+    ensures either { (result ≡ Status.BadScript line kind) ⊎ ((result ≡ Status.WriteFault) ⊎ (result ≡ Status.OutOfMemory)) }
+    ensures whole { result ≡ Status.BadScript line kind → Appends (K.taken sink.old) (K.taken sink.new) (bad_script_text line kind) }
+    ensures prefix { result ≡ Status.WriteFault → TakesProperPrefix (K.taken sink.old) (K.taken sink.new) (bad_script_text line kind) }
+    ensures nothing { result ≡ Status.OutOfMemory → Keeps (K.taken sink.old) (K.taken sink.new) }
+    ensures write_fault { result ≡ Status.WriteFault → Rose (K.faults sink.old) (K.faults sink.new) }
+    ensures count { K.faults sink.old ≤ K.faults sink.new }
+{
+    let refused = Status::BadScript { line, kind };
+    match refused.text(alloc) {
+        Ok(text) => deliver(sink, refused, text.as_slice()),
+        Err(_) => Status::OutOfMemory,
+    }
+}
+
+/// Runs the script, and writes the report of the run.
+fn report_run<R: Threads + Wait + Sync, K: Sink, G: Gate + Sync>(
+    rt: &R,
+    alloc: Global,
+    script: Script,
+    workers: u32,
+    sink: &mut K,
+    gate: &G,
+) -> Ended
+    requires valid { IsValid script }
+    requires fields { HasFields script }
+    requires workers { (1 ≤ workers) × (workers ≤ 16) }
+    // Whatever was read, if the script is all of it.
+    ensures ends { (old new : Option (List ℕ)) (before now : ℕ) (input : List ℕ) → ReadsAll old new input → length input ≤ INPUT_LIMIT → texts.script input ≡ Ok script → EndsRun (Threaded.Run workers)
+        (record { left = old; read_faults = before; taken = K.taken sink.old; write_faults = K.faults sink.old })
+        (record { left = new; read_faults = now; taken = K.taken sink.new; write_faults = K.faults sink.new })
+        result.run result.status }
+    ensures count { K.faults sink.old ≤ K.faults sink.new }
+{
+    match reported(rt, alloc, script, workers, gate) {
+        Ok((finished, text)) => with_run(finished, deliver(sink, Status::Ok, text.as_slice())),
+        Err(_) => without_run(Status::OutOfMemory),
+    }
+}
+
+/// `load N W`: runs the load script of N rounds, and writes the summary.
+fn run_load<R: Threads + Wait + Sync, K: Sink, G: Gate + Sync>(
+    rt: &R,
+    alloc: Global,
+    rounds: u32,
+    workers: u32,
+    sink: &mut K,
+    gate: &G,
+) -> Ended
+    requires rounds { (1 ≤ rounds) × (rounds ≤ 400) }
+    requires workers { (1 ≤ workers) × (workers ≤ 16) }
+    // Whatever a source has left.
+    ensures ends { (left : Option (List ℕ)) (faults : ℕ) → EndsRun (Threaded.Load rounds workers)
+        (record { left = left; read_faults = faults; taken = K.taken sink.old; write_faults = K.faults sink.old })
+        (record { left = left; read_faults = faults; taken = K.taken sink.new; write_faults = K.faults sink.new })
+        result.run result.status }
+    ensures count { K.faults sink.old ≤ K.faults sink.new }
+{
+    match summarized(rt, alloc, rounds, workers, gate) {
+        Ok((finished, text)) => with_run(finished, deliver(sink, Status::Ok, text.as_slice())),
+        Err(_) => without_run(Status::OutOfMemory),
+    }
+}
+
+/// A run of the script, and its report. An error is want of memory.
+fn reported<R: Threads + Wait + Sync, G: Gate + Sync>(
+    rt: &R,
+    alloc: Global,
+    script: Script,
+    workers: u32,
+    gate: &G,
+) -> Result<(Finished, Bytes), AllocError>
+    requires valid { IsValid script }
+    requires fields { HasFields script }
+    requires workers { (1 ≤ workers) × (workers ≤ 16) }
+    ensures { IfOk result (λ r. ReportsRun script r.0 r.1) }
+{
+    let (finished, outcome) = ran(rt, alloc, script, workers, gate)?;
+    let text = vi_report::text(alloc, &outcome)?;
+    Ok((finished, text))
+}
+
+/// A run of the load script of so many rounds, and its summary. An error is want of memory.
+fn summarized<R: Threads + Wait + Sync, G: Gate + Sync>(
+    rt: &R,
+    alloc: Global,
+    rounds: u32,
+    workers: u32,
+    gate: &G,
+) -> Result<(Finished, Bytes), AllocError>
+    requires rounds { (1 ≤ rounds) × (rounds ≤ 400) }
+    requires workers { (1 ≤ workers) × (workers ≤ 16) }
+    ensures { IfOk result (λ r. Summarizes rounds (Some r.0) r.1) }
+{
+    load_script_is_accepted();
+    let text = make(alloc, rounds)?;
+    let script = match vi_script::parse(alloc, text.as_slice()) {
+        Ok(script) => script,
+        Err(ScriptFault::OutOfMemory) => return Err(AllocError),
+        Err(ScriptFault::Bad { .. }) => unreachable!(),
+    };
+    let (finished, outcome) = ran(rt, alloc, script, workers, gate)?;
+    let line = summary(alloc, rounds, &outcome)?;
+    Ok((finished, line))
+}
+
+/// A run of the script on so many workers, and what it came to. An error is want of memory.
+fn ran<R: Threads + Wait + Sync, G: Gate + Sync>(
+    rt: &R,
+    alloc: Global,
+    script: Script,
+    workers: u32,
+    gate: &G,
+) -> Result<(Finished, Outcome), AllocError>
+    requires valid { IsValid script }
+    requires fields { HasFields script }
+    requires workers { (1 ≤ workers) × (workers ≤ 16) }
+    ensures { IfOk result (λ r. RanTo script r.0 r.1) }
+{
+    let opened = Opened::build(alloc, script)?;
+    let finished = run(rt, opened, workers, gate);
+    let outcome = finished.outcome(alloc)?;
+    Ok((finished, outcome))
+}

@@ -1,5 +1,0 @@
-use Rattle.std.proofs.Common.{append_assoc}
-use Rattle.viommu.proofs.status.bad_script.Goals as goal
-
-pub returns : goal.returns
-returns c = rw (c.from_vec.ensures, c.into_bytes.ensures.value) (simp append_assoc c.in_ok-text.ensures.ok)

@@ -1,6 +1,0 @@
-use Rattle.viommu.proofs.WorkLemmas.{answers-replies}
-use Rattle.viommu.proofs.work.one.Goals as goal
-
-pub returns : goal.returns
-returns c = λ input.
-    answers-replies input c.args.script.now c.in_ok-outcome.outcome c.report.result c.in_ok-outcome.ensures.outcome c.in_ok-outcome.ensures.made c.report.ensures.status c.report.ensures.text c.report.ensures.typed
