@@ -10,7 +10,7 @@ const YIELDS: u32 = 32;
 
 /// A round: in it each worker takes turns of its actors, and then all workers meet.
 #[derive(Drop)]
-pub(crate) struct Round {
+pub struct Round {
     /// How many turns in which its actor moved there were.
     moves: AtomicU64,
     /// Whether a worker has ended it.
@@ -19,7 +19,7 @@ pub(crate) struct Round {
 
 impl Round {
     /// A round that begins.
-    pub(crate) fn new() -> Self {
+    pub fn new() -> Self {
         Self {
             moves: AtomicU64::new(0),
             over: AtomicBool::new(false),
@@ -27,21 +27,21 @@ impl Round {
     }
 
     /// An actor moved.
-    pub(crate) fn moved(&self) {
+    pub fn moved(&self) {
         self.moves.fetch_add(1, Ordering::Relaxed);
     }
 
     /// Ends the round for all workers: each ends it once it has gone over its actors.
-    pub(crate) fn end(&self) {
+    pub fn end(&self) {
         self.over.store(true, Ordering::Relaxed);
     }
 }
 
 /// How a worker waits: it yields the longer, the more often its own actors didn't move.
 #[derive(Default, Drop)]
-pub(crate) struct Waiting {
+pub struct Waiting {
     /// Whether its round is over: another worker has ended it, or no actor of any worker moves.
-    pub(crate) is_over: bool,
+    pub is_over: bool,
     /// How often in a row it went over its actors while no actor of the round moved.
     still: u32,
     /// The moves of the round when it looked last.
@@ -52,7 +52,7 @@ pub(crate) struct Waiting {
 
 impl Waiting {
     /// It went over its actors: lets other workers go first, and looks at the round.
-    pub(crate) fn look(&mut self, round: &Round) {
+    pub fn look(&mut self, round: &Round) {
         for _time in 0..self.yields {
             thread::yield_now();
         }
@@ -68,7 +68,7 @@ impl Waiting {
     }
 
     /// An actor of its own took so many turns, of which only the last may be without a move.
-    pub(crate) fn note(&mut self, taken: u32) {
+    pub fn note(&mut self, taken: u32) {
         if 1 < taken {
             self.yields = 0;
         }

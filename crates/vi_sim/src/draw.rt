@@ -14,7 +14,7 @@ const INCREMENT: u64 = 1_442_695_040_888_963_407;
 const LOW_BITS: u32 = 33;
 
 /// The draw after this one.
-pub(crate) fn next_draw(draw: u64) -> u64
+pub fn next_draw(draw: u64) -> u64
     ensures { result ≡ next_draw draw }
 {
     draw.wrapping_mul(MULTIPLIER).wrapping_add(INCREMENT)
