@@ -12,7 +12,7 @@ use std::alloc::Global;
 use vi_words::{Words, is_word};
 
 /// What an actor line does, its numbers and bytes still words.
-#[derive(Clone, Copy, Debug)]
+#[derive(Clone, Copy)]
 pub enum DeedWords<'a> {
     Attach {
         domain: &'a [u8],
@@ -56,7 +56,7 @@ pub enum DeedWords<'a> {
 }
 
 /// What an actor line does, whether its driver goes on without waiting, and which lines it awaits.
-#[derive(Debug, Drop)]
+#[derive(Drop)]
 pub struct ActWords<'a> {
     pub deed: DeedWords<'a>,
     pub add: bool,

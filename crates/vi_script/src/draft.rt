@@ -40,7 +40,7 @@ const MOST_AWAITED: usize = 16;
 const MOST_OPEN_CALLS: u64 = 8;
 
 /// What the lines of a text have said so far.
-#[derive(Debug, Drop)]
+#[derive(Drop)]
 pub struct Draft {
     settings: Settings,
     endpoints: Vec<EndpointSetup>,

@@ -103,7 +103,7 @@ impl From<AllocError> for ScriptFault {
 }
 
 /// Why a line, or a part of one, wasn't read.
-#[derive(Clone, Copy, Debug, PartialEq, Eq)]
+#[derive(Clone, Copy)]
 pub enum Refusal {
     Bad(BadKind),
     OutOfMemory,

@@ -14,7 +14,7 @@ use vi_bytes::RegionKind;
 use vi_words::{Words, is_word};
 
 /// A setting of one number.
-#[derive(Clone, Copy, Debug, PartialEq, Eq)]
+#[derive(Clone, Copy)]
 pub enum Setting {
     Memory,
     Queue,
@@ -23,14 +23,14 @@ pub enum Setting {
 }
 
 /// A setting that is on or off.
-#[derive(Clone, Copy, Debug, PartialEq, Eq)]
+#[derive(Clone, Copy)]
 pub enum Switch {
     Bypass,
     Events,
 }
 
 /// A statement, its numbers and bytes still words.
-#[derive(Debug, Drop)]
+#[derive(Drop)]
 pub enum FormWords<'a> {
     Sets(Setting, &'a [u8]),
     Switches(Switch, bool),

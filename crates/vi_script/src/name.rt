@@ -14,7 +14,7 @@ use vi_lines::{Await, Who};
 use vi_words::{first_such, is_word, name_number};
 
 /// The name of a caller. A number of 2^32 or more counts as 2^32.
-#[derive(Clone, Copy, Debug, PartialEq, Eq)]
+#[derive(Clone, Copy, PartialEq, Eq)]
 pub enum Name {
     Driver(u64),
     Back(u64),
@@ -64,7 +64,7 @@ impl Name {
 }
 
 /// The name of an awaited line: its caller and its number, which counts as 2^32 from there on.
-#[derive(Clone, Copy, Debug, PartialEq, Eq)]
+#[derive(Clone, Copy)]
 pub struct AwaitedName {
     pub caller: Name,
     pub line: u64,
@@ -90,7 +90,7 @@ impl AwaitedName {
 }
 
 /// The name of a turn.
-#[derive(Clone, Copy, Debug, PartialEq, Eq)]
+#[derive(Clone, Copy)]
 pub enum TurnName {
     Caller(Name),
     Device,

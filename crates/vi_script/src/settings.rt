@@ -7,7 +7,7 @@ use vi_bytes::{EndpointSetup, Items, Span};
 use vi_history::Setup;
 
 /// The settings that were given, each within its limits.
-#[derive(Clone, Copy, Debug, Default, PartialEq, Eq)]
+#[derive(Clone, Copy, Default)]
 pub struct Settings {
     pub memory: Option<u32>,
     pub queue: Option<u16>,

@@ -5,7 +5,8 @@ ghost use Rattle.vi_script.specs.Faults.{Reads};
 ghost use Rattle.vi_lines.specs.Fields.{JobFits};
 ghost use Rattle.vi_script.specs.Fitting.{StatementFits};
 ghost use Rattle.vi_script.specs.Formed.{deed_of, acted, formed};
-ghost use Rattle.vi_script.specs.Forms.{SendsRaw};
+ghost use Rattle.vi_script.specs.Forms.{Attaches, Detaches, Maps, Unmaps, Probes, SendsRaw, Writes};
+ghost use Rattle.vi_script.specs.Forms as forms;
 ghost use Rattle.vi_script.specs.Names.{named, awaited, turned};
 ghost use Rattle.vi_script.specs.Stated.{job_of_numbers, line_of_names, stated, HasNames, HaveNames};
 ghost use Rattle.vi_script.specs.Statements.{number_at, id_at, bytes_at, raw_bytes_at, span_at, bypass_flag, turn_fits, await_fits, job_of, line_with, statement_of};
@@ -20,7 +21,7 @@ use vi_history::Request;
 use vi_words::{hex_bytes, is_word, number};
 
 /// What an actor line asks for or transfers, its lengths not yet looked at.
-#[derive(Debug, Drop)]
+#[derive(Drop)]
 pub enum JobNumbers {
     Ask(Request),
     Raw { read: Bytes, write: u64 },
@@ -30,7 +31,7 @@ pub enum JobNumbers {
 }
 
 /// An actor line as it was read. Its caller and the lines that it awaits may be none that there are.
-#[derive(Debug, Drop)]
+#[derive(Drop)]
 pub struct ActorLine {
     pub caller: Name,
     pub job: JobNumbers,
@@ -39,7 +40,7 @@ pub struct ActorLine {
 }
 
 /// A statement as it was read.
-#[derive(Debug, Drop)]
+#[derive(Drop)]
 pub enum Parsed {
     Sets(Setting, u64),
     Switches(Switch, bool),
@@ -140,51 +141,118 @@ fn job(alloc: Global, deed: DeedWords) -> Result<JobNumbers, Refusal>
             domain,
             endpoint,
             bypass,
-        } => Ok(JobNumbers::Ask(Request::Attach {
-            domain: id_at(domain)?,
-            endpoint: id_at(endpoint)?,
-            flags: bypass_flag(bypass),
-        })),
-        DeedWords::Detach { domain, endpoint } => Ok(JobNumbers::Ask(Request::Detach {
-            domain: id_at(domain)?,
-            endpoint: id_at(endpoint)?,
-        })),
+        } => attach(domain, endpoint, bypass),
+        DeedWords::Detach { domain, endpoint } => detach(domain, endpoint),
         DeedWords::Map {
             domain,
             first,
             last,
             target,
             flags,
-        } => Ok(JobNumbers::Ask(Request::Map {
-            domain: id_at(domain)?,
-            first: number_at(first)?,
-            last: number_at(last)?,
-            target: number_at(target)?,
-            flags,
-        })),
+        } => map(domain, first, last, target, flags),
         DeedWords::Unmap {
             domain,
             first,
             last,
-        } => Ok(JobNumbers::Ask(Request::Unmap {
-            domain: id_at(domain)?,
-            first: number_at(first)?,
-            last: number_at(last)?,
-        })),
-        DeedWords::Probe { endpoint } => Ok(JobNumbers::Ask(Request::Probe {
-            endpoint: id_at(endpoint)?,
-        })),
+        } => unmap(domain, first, last),
+        DeedWords::Probe { endpoint } => probe(endpoint),
         DeedWords::Bypass { on } => Ok(JobNumbers::Bypass(on)),
         DeedWords::Raw { hex, writable } => raw(alloc, hex, writable),
-        DeedWords::Read { iova, len } => Ok(JobNumbers::Read {
-            iova: number_at(iova)?,
-            len: number_at(len)?,
-        }),
-        DeedWords::Write { iova, hex } => Ok(JobNumbers::Write {
-            iova: number_at(iova)?,
-            bytes: bytes_at(alloc, hex)?,
-        }),
+        DeedWords::Read { iova, len } => read(iova, len),
+        DeedWords::Write { iova, hex } => write(alloc, iova, hex),
     }
+}
+
+/// An ATTACH of an endpoint to a domain.
+fn attach(domain: &[u8], endpoint: &[u8], bypass: bool) -> Result<JobNumbers, Refusal>
+    ensures job { Reads job_of_numbers result (job_of (Attaches domain.now endpoint.now bypass)) }
+    ensures fields { IfOk result (λ j. JobFits (job_of_numbers j)) }
+{
+    let domain = id_at(domain)?;
+    let endpoint = id_at(endpoint)?;
+    Ok(JobNumbers::Ask(Request::Attach {
+        domain,
+        endpoint,
+        flags: bypass_flag(bypass),
+    }))
+}
+
+/// A DETACH of an endpoint from a domain.
+fn detach(domain: &[u8], endpoint: &[u8]) -> Result<JobNumbers, Refusal>
+    ensures job { Reads job_of_numbers result (job_of (Detaches domain.now endpoint.now)) }
+    ensures fields { IfOk result (λ j. JobFits (job_of_numbers j)) }
+{
+    let domain = id_at(domain)?;
+    let endpoint = id_at(endpoint)?;
+    Ok(JobNumbers::Ask(Request::Detach { domain, endpoint }))
+}
+
+/// A MAP of a range in a domain.
+fn map(
+    domain: &[u8],
+    first: &[u8],
+    last: &[u8],
+    target: &[u8],
+    flags: u32,
+) -> Result<JobNumbers, Refusal>
+    ensures job { Reads job_of_numbers result (job_of (Maps domain.now first.now last.now target.now flags)) }
+    ensures fields { IfOk result (λ j. JobFits (job_of_numbers j)) }
+{
+    let domain = id_at(domain)?;
+    let first = number_at(first)?;
+    let last = number_at(last)?;
+    let target = number_at(target)?;
+    Ok(JobNumbers::Ask(Request::Map {
+        domain,
+        first,
+        last,
+        target,
+        flags,
+    }))
+}
+
+/// An UNMAP of a range in a domain.
+fn unmap(domain: &[u8], first: &[u8], last: &[u8]) -> Result<JobNumbers, Refusal>
+    ensures job { Reads job_of_numbers result (job_of (Unmaps domain.now first.now last.now)) }
+    ensures fields { IfOk result (λ j. JobFits (job_of_numbers j)) }
+{
+    let domain = id_at(domain)?;
+    let first = number_at(first)?;
+    let last = number_at(last)?;
+    Ok(JobNumbers::Ask(Request::Unmap {
+        domain,
+        first,
+        last,
+    }))
+}
+
+/// A PROBE of an endpoint.
+fn probe(endpoint: &[u8]) -> Result<JobNumbers, Refusal>
+    ensures job { Reads job_of_numbers result (job_of (Probes endpoint.now)) }
+    ensures fields { IfOk result (λ j. JobFits (job_of_numbers j)) }
+{
+    let endpoint = id_at(endpoint)?;
+    Ok(JobNumbers::Ask(Request::Probe { endpoint }))
+}
+
+/// A transfer that reads so many bytes.
+fn read(iova: &[u8], len: &[u8]) -> Result<JobNumbers, Refusal>
+    ensures job { Reads job_of_numbers result (job_of (forms.Reads iova.now len.now)) }
+    ensures fields { IfOk result (λ j. JobFits (job_of_numbers j)) }
+{
+    let iova = number_at(iova)?;
+    let len = number_at(len)?;
+    Ok(JobNumbers::Read { iova, len })
+}
+
+/// A transfer that writes these bytes.
+fn write(alloc: Global, iova: &[u8], hex: &[u8]) -> Result<JobNumbers, Refusal>
+    ensures job { Reads job_of_numbers result (job_of (Writes iova.now hex.now)) }
+    ensures fields { IfOk result (λ j. JobFits (job_of_numbers j)) }
+{
+    let iova = number_at(iova)?;
+    let bytes = bytes_at(alloc, hex)?;
+    Ok(JobNumbers::Write { iova, bytes })
 }
 
 /// A request of these bytes with so many writable ones.

@@ -17,7 +17,7 @@ use vi_lines::{Line, Row, add_place, count_of};
 const DRIVERS: usize = 8;
 
 /// The batches of one driver's lines.
-#[derive(Clone, Copy, Debug, Default, PartialEq, Eq)]
+#[derive(Clone, Copy, Default)]
 pub struct Batch {
     /// How many lines the driver's open batch has.
     pub current: u32,
@@ -64,7 +64,7 @@ fn calls_in(batches: &[Batch; DRIVERS]) -> u64
 }
 
 /// Lines in their order, with the counts that the next line is judged by, so that no line is looked at again.
-#[derive(Debug, Drop)]
+#[derive(Drop)]
 pub struct Tally {
     lines: Vec<Line>,
     rows: Vec<Row>,

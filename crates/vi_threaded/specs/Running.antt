@@ -56,15 +56,19 @@ pub record Reports (old new : Option (List ℕ)) (run : Option FinishedValue) (a
   pub run_is : run ≡ Some finished
   pub of_run : ReportsRun s finished answer
 
+-- the line is the summary of a run of the script
+pub record SumsRun (rounds : ℕ) (s : ScriptValue) (f : FinishedValue) (answer : List ℕ) : Type 0 where
+  pub outcome : Outcome
+  pub ran : RanTo s f outcome
+  pub summary : answer ≡ summary_line rounds outcome.entries
+
 -- `load N W` ran the load script of N rounds, and this is the summary of the run.
 pub record Summarizes (rounds : ℕ) (run : Option FinishedValue) (answer : List ℕ) : Type 0 where
   pub s : ScriptValue
   pub is_script : script (load_script rounds) ≡ std.Ok s
   pub finished : FinishedValue
   pub run_is : run ≡ Some finished
-  pub outcome : Outcome
-  pub ran : RanTo s finished outcome
-  pub summary : answer ≡ summary_line rounds outcome.entries
+  pub of_run : SumsRun rounds s finished answer
 
 -- the script that was read is refused
 pub record Refuses (old new : Option (List ℕ)) (status : Status) : Type 0 where

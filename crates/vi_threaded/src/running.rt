@@ -5,12 +5,13 @@ ghost use Rattle.std.specs.Io.KnownBytes.{Appends, Keeps};
 ghost use Rattle.vi_lines.specs.Fields.{HasFields};
 ghost use Rattle.vi_script.specs.Texts as texts;
 ghost use Rattle.vi_lines.specs.Valid.{IsValid};
+ghost use Rattle.vi_make.specs.LoadScript.{load_script};
 ghost use Rattle.vi_commands.specs.Accepted.{task_of};
 ghost use Rattle.vi_commands.specs.Causes.{Rose};
 ghost use Rattle.vi_commands.specs.Command.{command_in};
 ghost use Rattle.vi_commands.specs.Input.{ReadsAll};
 ghost use Rattle.vi_commands.specs.Output.{TakesProperPrefix};
-ghost use Rattle.vi_threaded.specs.Running.{EndsRun, IsRunRefused, IsRunTooLong, IsRunWithin, RanTo, ReportsRun, Summarizes, WritesRun, WritesSummary};
+ghost use Rattle.vi_threaded.specs.Running.{EndsRun, IsRunRefused, IsRunTooLong, IsRunWithin, ReportsRun, Summarizes, SumsRun, WritesRun, WritesSummary};
 ghost use Rattle.vi_commands.specs.Status.{bad_script_text};
 ghost use Rattle.vi_threaded.specs.Threads.{IsThreaded, threaded_in};
 ghost use Rattle.vi_commands.specs.Top.{Ends, IsFault, Writes};
@@ -25,7 +26,6 @@ use vi_bytes::Bytes;
 use vi_commands::{
     INPUT_LIMIT, InputFault, Sink, Source, Status, TOO_LONG, deliver, plain_top, read_input,
 };
-use vi_history::Outcome;
 use vi_lines::Script;
 use vi_make::{load_script_is_accepted, make, summary};
 use vi_run::{Finished, Gate, Opened, run};
@@ -244,9 +244,17 @@ fn reported<R: Threads + Wait + Sync, G: Gate + Sync>(
     requires workers { (1 ≤ workers) × (workers ≤ 16) }
     ensures { IfOk result (λ r. ReportsRun script r.0 r.1) }
 {
-    let (finished, outcome) = ran(rt, alloc, script, workers, gate)?;
-    let text = vi_report::text(alloc, &outcome)?;
+    let finished = ran(rt, alloc, script, workers, gate)?;
+    let text = report_of(alloc, &finished)?;
     Ok((finished, text))
+}
+
+/// The report of a run. An error is want of memory.
+fn report_of(alloc: Global, finished: &Finished) -> Result<Bytes, AllocError>
+    ensures { IfOk result (λ text. ReportsRun finished.now.last.script finished.now text) }
+{
+    let outcome = finished.outcome(alloc)?;
+    vi_report::text(alloc, &outcome)
 }
 
 /// A run of the load script of so many rounds, and its summary. An error is want of memory.
@@ -261,33 +269,48 @@ fn summarized<R: Threads + Wait + Sync, G: Gate + Sync>(
     requires workers { (1 ≤ workers) × (workers ≤ 16) }
     ensures { IfOk result (λ r. Summarizes rounds (Some r.0) r.1) }
 {
-    load_script_is_accepted();
-    let text = make(alloc, rounds)?;
-    let script = match vi_script::parse(alloc, text.as_slice()) {
-        Ok(script) => script,
-        Err(ScriptFault::OutOfMemory) => return Err(AllocError),
-        Err(ScriptFault::Bad { .. }) => unreachable!(),
-    };
-    let (finished, outcome) = ran(rt, alloc, script, workers, gate)?;
-    let line = summary(alloc, rounds, &outcome)?;
+    let finished = ran(rt, alloc, load_script(alloc, rounds)?, workers, gate)?;
+    let line = summary_of(alloc, rounds, &finished)?;
     Ok((finished, line))
 }
 
-/// A run of the script on so many workers, and what it came to. An error is want of memory.
+/// The load script of so many rounds. An error is want of memory.
+fn load_script(alloc: Global, rounds: u32) -> Result<Script, AllocError>
+    requires rounds { (1 ≤ rounds) × (rounds ≤ 400) }
+    ensures script { IfOk result (λ s. texts.script (load_script rounds) ≡ Ok s) }
+    ensures valid { IfOk result IsValid }
+    ensures fields { IfOk result HasFields }
+{
+    load_script_is_accepted();
+    let text = make(alloc, rounds)?;
+    match vi_script::parse(alloc, text.as_slice()) {
+        Ok(script) => Ok(script),
+        Err(ScriptFault::OutOfMemory) => Err(AllocError),
+        Err(ScriptFault::Bad { .. }) => unreachable!(),
+    }
+}
+
+/// The summary of a run of a load script. An error is want of memory.
+fn summary_of(alloc: Global, rounds: u32, finished: &Finished) -> Result<Bytes, AllocError>
+    ensures { IfOk result (λ line. SumsRun rounds finished.now.last.script finished.now line) }
+{
+    let outcome = finished.outcome(alloc)?;
+    summary(alloc, rounds, &outcome)
+}
+
+/// A run of the script on so many workers. An error is want of memory.
 fn ran<R: Threads + Wait + Sync, G: Gate + Sync>(
     rt: &R,
     alloc: Global,
     script: Script,
     workers: u32,
     gate: &G,
-) -> Result<(Finished, Outcome), AllocError>
+) -> Result<Finished, AllocError>
     requires valid { IsValid script }
     requires fields { HasFields script }
     requires workers { (1 ≤ workers) × (workers ≤ 16) }
-    ensures { IfOk result (λ r. RanTo script r.0 r.1) }
+    ensures { IfOk result (λ finished. finished.last.script ≡ script) }
 {
     let opened = Opened::build(alloc, script)?;
-    let finished = run(rt, opened, workers, gate);
-    let outcome = finished.outcome(alloc)?;
-    Ok((finished, outcome))
+    Ok(run(rt, opened, workers, gate))
 }

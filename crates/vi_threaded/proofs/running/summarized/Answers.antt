@@ -1,5 +1,0 @@
-use Rattle.vi_threaded.proofs.LoadLemmas.{load_script-few}
-use Rattle.vi_threaded.proofs.running.summarized.Goals as goal
-
-pub parse-requires : goal.parse-requires
-parse-requires g c = rw (c.as_slice.ensures, c.in_ok-text.ensures.written) (load_script-few c.args.rounds c.requires.rounds.1)
