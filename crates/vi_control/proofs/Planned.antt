@@ -12,10 +12,13 @@ use Rattle.vi_history.specs.Start.{start_dev, unattached}
 use Rattle.vi_history.specs.declared.call.Caller.TheVariants.{Back}
 use Rattle.vi_calls.specs.Moves.{no_calls}
 use Rattle.vi_grants.specs.declared.row.Grant.{Grant}
-use Rattle.vi_grants.specs.Rows.{empty_row}
+use Rattle.vi_device.specs.Values.{DeviceValue}
+use Rattle.vi_events.specs.Value.{EventQueue, no_events}
+use Rattle.vi_grants.specs.Rows.{GrantRow, empty_row}
 use Rattle.vi_lines.specs.Calls.{driver_call, parts_of}
 use Rattle.vi_lines.specs.Valid.{IsValidSetup}
 use Rattle.vi_lines.specs.Value.{ScriptValue}
+use Rattle.vi_lines.specs.declared.line.Line.{Line}
 use Rattle.vi_model.specs.Control.{driver_count, no_port, no_lanes}
 use Rattle.vi_model.specs.Places.{ids_of, place_count}
 use Rattle.vi_model.specs.Rooms.{is_map, is_back, all_maps, all_parts, all_transfers}
@@ -52,23 +55,52 @@ empty_spares (suc n) each = ap (λ gs. each ∷ gs) (empty_spares n each)
 empty_pages : (n each : ℕ) → All HasPages (replicate n (empty_row each))
 empty_pages n each = All-replicate HasPages n (empty_row each) (All-nil (λ (g : Grant). g.lease.page + g.lease.count ≤ 2 ^ 52))
 
-pub state_made : (s : ScriptValue) (places maps parts faults : ℕ) → places ≡ place_count s → maps ≡ count_by (λ l. is_map (task_in (driver_call l.job))) s.lines
-    → parts ≡ sum_by (λ l. parts_of l.job) s.lines → faults ≡ count_by (λ l. is_back l.caller) s.lines
+pub state_made : (s : ScriptValue)
     → record {
       dev = start_dev s.setup;
-      mappings = maps;
+      mappings = all_maps s;
       queue = [];
       ports = replicate driver_count no_port;
       removals = [];
-      grants = map grants_in (replicate places (empty_row parts));
-      spares = map spare_in (replicate places (empty_row parts));
-      mail = replicate places no_lanes;
-      parked = replicate places None;
-      posted = replicate places 0;
-      events = record { shown = []; waiting = []; dropped = 0; room = faults };
+      grants = map grants_in (replicate (place_count s) (empty_row (all_parts s)));
+      spares = map spare_in (replicate (place_count s) (empty_row (all_parts s)));
+      mail = replicate (place_count s) no_lanes;
+      parked = replicate (place_count s) None;
+      posted = replicate (place_count s) 0;
+      events = record { shown = []; waiting = []; dropped = 0; room = all_transfers s };
     } ≡ opening_control s
-unfolding all_maps all_parts all_transfers
-state_made s places maps parts faults e f g h = rw (e, f, g, h, empty_grants (place_count s) (sum_by (λ l. parts_of l.job) s.lines), empty_spares (place_count s) (sum_by (λ l. parts_of l.job) s.lines)) refl
+state_made s = rw (empty_grants (place_count s) (all_parts s), empty_spares (place_count s) (all_parts s)) refl
+
+-- what was counted of a script's lines is what its control has room for
+pub maps_made : (s : ScriptValue) (lines : List Line) (n : ℕ) → lines ≡ s.lines → n ≡ count_by (λ l. is_map (task_in (driver_call l.job))) lines → n ≡ all_maps s
+unfolding all_maps
+maps_made s lines n e f = rw (f, e) refl
+
+pub parts_made : (s : ScriptValue) (lines : List Line) (n : ℕ) → lines ≡ s.lines → n ≡ sum_by (λ l. parts_of l.job) lines → n ≡ all_parts s
+unfolding all_parts
+parts_made s lines n e f = rw (f, e) refl
+
+pub transfers_made : (s : ScriptValue) (lines : List Line) (n : ℕ) → lines ≡ s.lines → n ≡ count_by (λ l. is_back l.caller) lines → n ≡ all_transfers s
+unfolding all_transfers
+transfers_made s lines n e f = rw (f, e) refl
+
+pub places_are : (s : ScriptValue) (n : ℕ) → n ≡ length s.setup.endpoints → n ≡ place_count s
+places_are s n e = e ∙ sym (length-map s.setup.endpoints (λ (x : EndpointSetup). x.id))
+
+-- and the parts are built with that
+pub device_built : (s : ScriptValue) (v : DeviceValue) (n : ℕ) → v ≡ record { dev = start_dev s.setup; maps = n } → n ≡ all_maps s → v ≡ record { dev = start_dev s.setup; maps = all_maps s }
+device_built s v n e f = e ∙ ap (λ m. let d : DeviceValue = record { dev = start_dev s.setup; maps = m } in d) f
+
+pub events_built : (s : ScriptValue) (v : EventQueue) (n : ℕ) → v ≡ record { buffers = s.setup.queue; events = no_events n } → n ≡ all_transfers s → v ≡ record { buffers = s.setup.queue; events = no_events (all_transfers s) }
+events_built s v n e f = e ∙ ap (λ m. let q : EventQueue = record { buffers = s.setup.queue; events = no_events m } in q) f
+
+pub grants_built : (s : ScriptValue) (rows : List GrantRow) (places parts : ℕ) → rows ≡ replicate places (empty_row parts) → places ≡ place_count s → parts ≡ all_parts s
+    → rows ≡ replicate (place_count s) (empty_row (all_parts s))
+grants_built s rows places parts e p q = rw (e, p, q) refl
+
+pub rows_built : (s : ScriptValue) (lines : List Line) (ids : List ℕ) (rows : List (List Transfer)) → rows ≡ map (λ id. transfers_in lines (Back id)) ids → lines ≡ s.lines → ids ≡ ids_of s
+    → rows ≡ map (λ id. transfers_in s.lines (Back id)) (ids_of s)
+rows_built s lines ids rows e l i = rw (e, l, i) refl
 
 pub rows_made : {A : Type 0} (g : A → List Transfer) (f : ℕ → List Transfer) (rows : List A) (ids : List ℕ) → map g rows ≡ map f ids → length rows ≡ length ids
 rows_made g f rows ids e = sym (length-map rows g) ∙ (ap length e ∙ length-map ids f)

@@ -5,8 +5,8 @@ ghost use Rattle.vi_model.specs.Worlds.{opening_control};
 ghost use Rattle.vi_control.specs.Plan.{plan_of};
 
 use crate::Transfer;
-use crate::counts::{count_maps, count_parts, count_transfers};
-use crate::opening::{configuration, ids_in, transfers_by, zeros};
+use crate::opening::configuration;
+use crate::parts::{back_ends_of, device_of, rows_of};
 use std::alloc::{AllocError, Global};
 use std::marker::Model;
 use vi_calls::Calls;
@@ -59,20 +59,19 @@ impl Control {
         ensures state { IfOk result (λ c. c.state ≡ opening_control script.now) }
         ensures answered { IfOk result (λ c. c.answered ≡ []) }
     {
-        let setup = &script.setup;
-        let lines = script.lines.as_slice();
-        let ids = ids_in(alloc, setup.endpoints.as_slice())?;
-        let places = ids.len() as u32;
+        let (transfers, removals) = back_ends_of(alloc, script)?;
+        let (posted, grants, lanes) = rows_of(alloc, script)?;
+        let (calls, events, device) = device_of(alloc, script)?;
         Ok(Control {
-            device: Device::new(alloc, setup, count_maps(lines))?,
-            calls: Calls::build(alloc, setup.queue)?,
-            removals: Removals::new(&ids),
-            grants: Grants::with_room(alloc, places, count_parts(lines))?,
-            lanes: Lanes::build(alloc, places)?,
-            events: EventQueue::build(alloc, setup.queue, count_transfers(lines))?,
-            posted: zeros(alloc, ids.len())?,
-            transfers: transfers_by(alloc, lines, &ids)?,
-            config: configuration(setup),
+            device,
+            calls,
+            removals,
+            grants,
+            lanes,
+            events,
+            posted,
+            transfers,
+            config: configuration(&script.setup),
             properties: [0; 512],
             probed: false,
         })

@@ -17,6 +17,7 @@ mod lent;
 mod misses;
 mod next;
 mod opening;
+mod parts;
 mod places;
 mod question;
 mod serve;
