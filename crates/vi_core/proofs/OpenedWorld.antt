@@ -28,17 +28,8 @@ use Rattle.vi_control.specs.Value.{ControlValue}
 use Rattle.vi_core.specs.Histories.{HistoryValue, no_entries}
 use Rattle.vi_core.specs.HistoryRoom.{answer_bytes, bytes_of}
 use Rattle.vi_core.specs.Running.{Running, opened}
-use Rattle.vi_core.specs.Opening.{IsNew, AreNew}
+use Rattle.vi_core.specs.Opening.{IsNew, AreNew, IsBuilt}
 use Rattle.vi_core.specs.Parts.{Parts, world_of, running, no_driver, no_back, IsDriverOf, IsKept}
-
--- the parts of a world that is built
-pub record IsBuilt (p : Parts) : Type 0 where
-  pub plan : (let c : ControlValue = p.control in c.plan) ≡ plan_of p.script
-  pub state : (let c : ControlValue = p.control in c.state) ≡ opening_control p.script
-  pub drivers : p.drivers ≡ map (λ number. own_driver p.script number no_stand) (range_with_len 0 8)
-  pub backs : AreNew p.script (place_count p.script) p.backs
-  pub pages : p.pages ≡ (start p.script.setup).memory
-  pub history : p.history ≡ record { entries = []; spare_entries = calls_of p.script; spare_bytes = bytes_of p.script }
 
 zero_pages : (n : ℕ) → replicate n (replicate 4096 0) ≡ replicate n zero_page
 unfolding zero_page

@@ -19,10 +19,9 @@ use crate::conversing::{converse, reach};
 use crate::driving::drive;
 use crate::gate::Free;
 use crate::history::History;
-use crate::opening::{backs_of, drivers_of};
+use crate::opening::parts_of;
 use crate::outcome::outcome_of;
 use crate::reader::read_event;
-use crate::room::{byte_room, entry_room};
 use crate::serving::serve;
 use crate::turned::Turned;
 use std::alloc::{AllocError, Global};
@@ -32,7 +31,7 @@ use vi_control::Control;
 use vi_driver::Driver;
 use vi_history::Outcome;
 use vi_lines::{Script, Who};
-use vi_memory::{Page, zero_pages};
+use vi_memory::Page;
 
 /// A script at work: what its actors share, what each of them has, the memory, and the history of their turns. All room is
 /// taken when it is built, and no turn takes memory.
@@ -67,19 +66,14 @@ impl World {
         requires { IsPlayable script }
         ensures { IfOk result (λ w. w ≡ opened script) }
     {
-        let control = Control::build(alloc, &script)?;
-        let drivers = drivers_of(alloc, &script)?;
-        let backs = backs_of(alloc, &script)?;
-        let pages = zero_pages(alloc, script.setup.memory)?;
-        let entries = entry_room(script.lines.as_slice());
-        let bytes = byte_room(script.lines.as_slice());
+        let (pages, history, drivers, backs, control) = parts_of(alloc, &script)?;
         Ok(World {
             script,
             control,
             drivers,
             backs,
             pages,
-            history: History::with_room(alloc, entries, bytes)?,
+            history,
         })
     }
 
@@ -138,6 +132,14 @@ impl World {
     /// What the turns have come to. An error is want of memory.
     pub fn outcome(self, alloc: Global) -> Result<Outcome, AllocError>
         ensures outcome { IfOk result (λ o. o ≡ outcome_of self.world) }
+        ensures made { IfOk result IsWellMade }
+    {
+        self.came_to(alloc)
+    }
+
+    // The same, by a reference: nothing of the world is dropped on the way.
+    fn came_to(&self, alloc: Global) -> Result<Outcome, AllocError>
+        ensures outcome { IfOk result (λ o. o ≡ outcome_of self.now.world) }
         ensures made { IfOk result IsWellMade }
     {
         let entries = self.history.entries(alloc)?;

@@ -8,7 +8,7 @@ use Rattle.vi_core.specs.Parts.{world_of}
 use Rattle.vi_core.specs.Outcomes.{fault_numbers, named_by}
 use Rattle.vi_core.proofs.OutcomeLaws.{outcome_made}
 use Rattle.vi_core.proofs.Ending.{ok_also}
-use Rattle.vi_core.proofs.world.World.outcome.Goals as goal
+use Rattle.vi_core.proofs.world.World.came_to.Goals as goal
 
 -- the outcome with these entries, records and this number of dropped ones
 abbrev made_of : List Entry → List Shown → ℕ → Outcome
@@ -18,6 +18,12 @@ pub outcome_of-requires : goal.outcome_of-requires
 outcome_of-requires c =
     subst (λ (es : List Entry). length es < 2 ^ 32) (sym c.in_ok-entries.ensures)
     (outcome_made c.self.inside.script (world_of (parts_of c.self.inside)) c.self.invariant.playable c.self.invariant.sound).few
+
+pub returns-clause-outcome : goal.returns-clause-outcome
+returns-clause-outcome c =
+    rw (← c.self.view_is)
+    (ok_also c.outcome_of.result (λ o is.
+    is ∙ ap (λ (es : List Entry). made_of es c.shown.result.now c.dropped.result) c.in_ok-entries.ensures ∙ ap₂ (made_of c.self.inside.history.entries) c.shown.ensures c.dropped.ensures) c.outcome_of.ensures)
 
 pub returns-clause-made : goal.returns-clause-made
 returns-clause-made c =
