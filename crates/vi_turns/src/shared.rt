@@ -13,7 +13,7 @@ ghost use Rattle.vi_turns.specs.Ended.{IsClosed};
 use crate::closed::{Closed, Last};
 use crate::control_box::ControlBox;
 use crate::emptied::emptied;
-use crate::filled::{filled, zeros};
+use crate::filled::{filled, laid};
 use crate::pass::Pass;
 use crate::rule::{Cut, Front, Give, Glue, InOrder, Keep, Stamp, TryControl, TryPage};
 use crate::slot::Slot;
@@ -76,13 +76,8 @@ impl Shared {
         ensures room { IfOk result (λ r. log_of r.1 ≡ log) }
     {
         let count = pages.len();
-        let words = zeros(alloc, count + 2)?;
-        let room = Vec::with_capacity(alloc, count)?;
-        let slots = filled(alloc, control, pages)?;
-        let (table, seat) = match Table::new(alloc, words.as_slice(), slots, script) {
-            Ok(made) => made,
-            Err(_) => return Err(AllocError),
-        };
+        let (slots, room) = filled(alloc, control, pages)?;
+        let (table, seat) = laid(alloc, script, count + 2, slots)?;
         let pass = Pass {
             seat,
             log,
