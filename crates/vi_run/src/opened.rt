@@ -51,19 +51,7 @@ impl Opened {
         requires { IsPlayable script }
         ensures { IfOk result (λ o. o.board.script ≡ script) }
     {
-        let control = Control::build(alloc, &script)?;
-        let pages = zero_pages(alloc, script.setup.memory)?;
-        let log = Log::with_room(alloc, 0, 0)?;
-        let (shared, mut pass) = Shared::build(alloc, &script, control, pages, log)?;
-        let round = actors(alloc, &script)?;
-        let all = actors_of(alloc, &shared, &mut pass, &script, &round)?;
-        let logs = Vec::with_capacity(alloc, all.len())?;
-        Ok(Opened {
-            shared,
-            pass,
-            actors: all,
-            logs,
-        })
+        set_up(alloc, &script)
     }
 
     /// The parts, for a caller with threads of its own: pass 0, and the actors in the order of a round, the i-th with the i-th pass that
@@ -74,6 +62,36 @@ impl Opened {
     {
         (self.shared, self.pass, self.actors)
     }
+}
+
+// A run of the script in which nothing has happened. An error is want of memory.
+fn set_up(alloc: Global, script: &Script) -> Result<Opened, AllocError>
+    requires { IsPlayable script.now }
+    ensures { IfOk result (λ o. o.board.script ≡ script.now) }
+{
+    let round = actors(alloc, script)?;
+    let logs = Vec::with_capacity(alloc, round.len())?;
+    let (shared, mut pass) = shared_of(alloc, script)?;
+    let all = actors_of(alloc, &shared, &mut pass, script, &round)?;
+    Ok(Opened {
+        shared,
+        pass,
+        actors: all,
+        logs,
+    })
+}
+
+// The shared object of the script, and its first pass. An error is want of memory.
+fn shared_of(alloc: Global, script: &Script) -> Result<(Shared, Pass), AllocError>
+    requires { IsPlayable script.now }
+    ensures own { IfOk result (λ r. (r.1.table ≡ r.0.table) × (r.0.script ≡ script.now)) }
+    ensures first { IfOk result (λ r. r.1.view ≡ first script.now) }
+{
+    let log = Log::with_room(alloc, 0, 0)?;
+    let pages = zero_pages(alloc, script.setup.memory)?;
+    // The deepest last: each way out drops what was built before.
+    let control = Control::build(alloc, script)?;
+    Shared::build(alloc, script, control, pages, log)
 }
 
 // The actors of a round in order, each with a pass that is split from the first one. An error is want of memory.
