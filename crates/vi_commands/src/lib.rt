@@ -5,7 +5,7 @@
 mod command;
 mod counts;
 mod course;
-mod deliver;
+mod delivery;
 mod input;
 mod judged;
 mod list_sink;
@@ -20,7 +20,7 @@ mod words;
 mod work;
 
 pub use command::{Command, MOST_MOVES, Task};
-pub use deliver::deliver;
+pub use delivery::deliver;
 pub use input::{InputFault, read_input};
 pub use list_sink::ListSink;
 pub use list_source::ListSource;

@@ -14,7 +14,7 @@ ghost use Rattle.vi_commands.specs.declared.command.Command.{Command};
 ghost use Rattle.vi_commands.specs.declared.command.Task.{Task};
 
 use crate::command::{Command, Task};
-use crate::deliver::deliver;
+use crate::delivery::deliver;
 use crate::input::{InputFault, read_input};
 use crate::outside::{Sink, Source};
 use crate::status::{Status, TOO_LONG, USAGE};

@@ -11,7 +11,7 @@ ghost use Rattle.vi_commands.specs.Causes.{Rose};
 ghost use Rattle.vi_commands.specs.Command.{command_in};
 ghost use Rattle.vi_commands.specs.Input.{ReadsAll};
 ghost use Rattle.vi_commands.specs.Output.{TakesProperPrefix};
-ghost use Rattle.vi_threaded.specs.Running.{EndsRun, IsRunRefused, IsRunTooLong, IsRunWithin, ReportsRun, Summarizes, SumsRun, WritesRun, WritesSummary};
+ghost use Rattle.vi_threaded.specs.Running.{EndsRun, IsRunRefused, IsRunTooLong, IsRunWithin, RanTo, ReportsRun, Summarizes, SumsRun, WritesRun, WritesSummary};
 ghost use Rattle.vi_commands.specs.Status.{bad_script_text};
 ghost use Rattle.vi_threaded.specs.Threads.{IsThreaded, threaded_in};
 ghost use Rattle.vi_commands.specs.Top.{Ends, IsFault, Writes};
@@ -26,6 +26,7 @@ use vi_bytes::Bytes;
 use vi_commands::{
     INPUT_LIMIT, InputFault, Sink, Source, Status, TOO_LONG, deliver, plain_top, read_input,
 };
+use vi_history::Outcome;
 use vi_lines::Script;
 use vi_make::{load_script_is_accepted, make, summary};
 use vi_run::{Finished, Gate, Opened, run};
@@ -253,8 +254,9 @@ fn reported<R: Threads + Wait + Sync, G: Gate + Sync>(
 fn report_of(alloc: Global, finished: &Finished) -> Result<Bytes, AllocError>
     ensures { IfOk result (λ text. ReportsRun finished.now.last.script finished.now text) }
 {
-    let outcome = finished.outcome(alloc)?;
-    vi_report::text(alloc, &outcome)
+    let outcome = outcome_of(alloc, finished)?;
+    let text = vi_report::text(alloc, &outcome)?;
+    Ok(text)
 }
 
 /// A run of the load script of so many rounds, and its summary. An error is want of memory.
@@ -294,8 +296,17 @@ fn load_script(alloc: Global, rounds: u32) -> Result<Script, AllocError>
 fn summary_of(alloc: Global, rounds: u32, finished: &Finished) -> Result<Bytes, AllocError>
     ensures { IfOk result (λ line. SumsRun rounds finished.now.last.script finished.now line) }
 {
+    let outcome = outcome_of(alloc, finished)?;
+    let line = summary(alloc, rounds, &outcome)?;
+    Ok(line)
+}
+
+/// What a run came to. An error is want of memory.
+fn outcome_of(alloc: Global, finished: &Finished) -> Result<Outcome, AllocError>
+    ensures { IfOk result (λ o. RanTo finished.now.last.script finished.now o) }
+{
     let outcome = finished.outcome(alloc)?;
-    summary(alloc, rounds, &outcome)
+    Ok(outcome)
 }
 
 /// A run of the script on so many workers. An error is want of memory.
