@@ -8,12 +8,29 @@ use std::sync::atomic::{AtomicU64, Ordering};
 use std::test::Fail;
 use std::thread;
 use std::thread::Threads;
-use vi_commands::Status;
+use vi_commands::{ListSink, ListSource, Status};
 use vi_lines::Who;
 use vi_run::{Free, Gate, Point};
-use vi_threaded::top;
+use vi_threaded::{Ended, top};
 
 const USAGE: &[u8] = b"usage: viommu run W | sim S T | one | check | make N | load N W\n";
+
+/// The status of a call of the program that has ended. The run that it hands back is dropped here.
+fn status_of(ended: Ended) -> Status {
+    ended.status
+}
+
+/// The status of a call of the program with these words.
+fn called<R: Threads + Wait + Sync, G: Gate + Sync>(
+    rt: &R,
+    alloc: Global,
+    words: &[String],
+    source: &mut ListSource,
+    sink: &mut ListSink,
+    gate: &G,
+) -> Status {
+    status_of(top(rt, alloc, words, source, sink, gate))
+}
 
 /// What a call of the program comes to: the status, and what the sink took.
 fn ended<R: Threads + Wait + Sync, G: Gate + Sync>(
@@ -25,8 +42,8 @@ fn ended<R: Threads + Wait + Sync, G: Gate + Sync>(
 ) -> Result<(Status, Vec<u8>), Fail> {
     let words = split(alloc, line)?;
     let (mut source, mut sink) = outside(alloc, input, &[], 99999, &[])?;
-    let ended = top(rt, alloc, &words, &mut source, &mut sink, gate);
-    Ok((ended.status, Vec::from_slice(alloc, sink.taken())?))
+    let status = called(rt, alloc, &words, &mut source, &mut sink, gate);
+    Ok((status, Vec::from_slice(alloc, sink.taken())?))
 }
 
 #[test]

@@ -1,9 +1,10 @@
 //! What no clause says: calls with ample memory, faults in mid-stream, and the adapters.
 ghost use Rattle.std.specs.Prelude.{◌≤◌};
+ghost use Rattle.vi_lines.specs.Valid.{IsValid};
 
 use crate::cases::{CHECK, NETWORK, ONE};
 use crate::sim_cases::{ALWAYS, SAME, SCHEDULES, SIM};
-use std::alloc::Global;
+use std::alloc::{AllocError, Global};
 use std::io::{self, Read, Write};
 use std::test::Fail;
 use vi_bytes::{Bytes, Items};
@@ -11,6 +12,7 @@ use vi_commands::{
     INPUT_LIMIT, InputFault, ListSink, ListSource, Reading, Status, Writing, number, one_thread,
     plain_top, read_input, write_text,
 };
+use vi_lines::Script;
 use vi_make::{make, summary};
 use vi_script::{BadKind, parse};
 
@@ -59,6 +61,11 @@ pub(crate) fn outside(
     Ok((source, sink))
 }
 
+/// The status of a call of the program without threads with these words.
+fn called(alloc: Global, words: &[String], source: &mut ListSource, sink: &mut ListSink) -> Status {
+    plain_top(alloc, words, source, sink)
+}
+
 /// What a call comes to: the status, and what the sink took.
 pub(crate) fn ran(
     alloc: Global,
@@ -70,7 +77,7 @@ pub(crate) fn ran(
 ) -> Result<(Status, Vec<u8>), Fail> {
     let words = split(alloc, line)?;
     let (mut source, mut sink) = outside(alloc, input, read_fails, room, write_fails)?;
-    let status = plain_top(alloc, &words, &mut source, &mut sink);
+    let status = called(alloc, &words, &mut source, &mut sink);
     Ok((status, Vec::from_slice(alloc, sink.taken())?))
 }
 
@@ -247,6 +254,13 @@ fn replies_of_one_are_legal(rt: HostRuntime) -> Result<(), Fail> {
     Ok(())
 }
 
+/// The summary of the replies to a script, after so many rounds.
+fn summed_of(alloc: Global, rounds: u32, script: &Script) -> Result<Bytes, AllocError>
+    requires { IsValid script.now }
+{
+    summary(alloc, rounds, &one_thread(alloc, script)?)
+}
+
 /// The summary of the replies to the load script of so many rounds.
 fn summed(alloc: Global, rounds: u32) -> Result<Bytes, Fail>
     requires some { 1 ≤ rounds }
@@ -257,8 +271,7 @@ fn summed(alloc: Global, rounds: u32) -> Result<Bytes, Fail>
         alloc,
         &text.as_slice()[..text.len().min(INPUT_LIMIT as usize)],
     )?;
-    let outcome = one_thread(alloc, &script)?;
-    Ok(summary(alloc, rounds, &outcome)?)
+    Ok(summed_of(alloc, rounds, &script)?)
 }
 
 #[test]
