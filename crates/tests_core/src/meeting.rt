@@ -176,11 +176,13 @@ fn device_meets_in(
     alloc: Global,
     script: Script,
 ) -> Result<
-    Option<(
-        Option<Ran>,
-        [Ran; 2],
-        Option<(u64, (bool, Ran), Option<(usize, u64, Mark, bool)>)>,
-    )>,
+    Option<
+        (
+            Option<Ran>,
+            [Ran; 2],
+            Option<(u64, (bool, Ran), Option<(usize, u64, Mark, bool)>)>,
+        ),
+    >,
     AllocError,
 >
     requires { IsPlayable script }
@@ -189,12 +191,7 @@ fn device_meets_in(
     if actors.len() != 4 {
         return Ok(None);
     }
-    Ok(Some(device_meets(
-        alloc,
-        &shared,
-        &mut zero,
-        &mut actors,
-    )))
+    Ok(Some(device_meets(alloc, &shared, &mut zero, &mut actors)))
 }
 
 #[test]
@@ -283,7 +280,13 @@ fn ends_of_five(
     shared: &Shared,
     zero: &mut Pass,
     actors: &mut Vec<Actor>,
-) -> Option<((Ran, u64), Option<[Ran; 2]>, Option<(usize, u64, Mark, bool)>)>
+) -> Option<
+    (
+        (Ran, u64),
+        Option<[Ran; 2]>,
+        Option<(usize, u64, Mark, bool)>,
+    ),
+>
     requires zero { zero.old.table ≡ shared.now.table }
     requires memory { 0 < shared.now.script.setup.memory }
     requires actors { AreActors shared.now actors.old.items }
@@ -303,10 +306,18 @@ fn back_ends_meet_in(
     alloc: Global,
     script: Script,
 ) -> Result<
-    Option<(
-        u64,
-        Option<((Ran, u64), Option<[Ran; 2]>, Option<(usize, u64, Mark, bool)>)>,
-    )>,
+    Option<
+        (
+            u64,
+            Option<
+                (
+                    (Ran, u64),
+                    Option<[Ran; 2]>,
+                    Option<(usize, u64, Mark, bool)>,
+                ),
+            >,
+        ),
+    >,
     AllocError,
 >
     requires { IsPlayable script }
@@ -317,10 +328,7 @@ fn back_ends_meet_in(
         return Ok(None);
     }
     let before = come_to_accesses(&shared, &mut actors);
-    Ok(Some((
-        before,
-        ends_of_five(alloc, &shared, &mut zero, &mut actors),
-    )))
+    Ok(Some((before, ends_of_five(alloc, &shared, &mut zero, &mut actors))))
 }
 
 #[test]

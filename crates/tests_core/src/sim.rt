@@ -25,11 +25,7 @@ fn the_generator_is_mmix(rt: HostRuntime) -> Result<(), Fail> {
 
 /// How many entries and records there are, and how many records were dropped.
 fn counted(outcome: &Outcome) -> (usize, usize, u32) {
-    (
-        outcome.entries.len(),
-        outcome.shown.len(),
-        outcome.dropped,
-    )
+    (outcome.entries.len(), outcome.shown.len(), outcome.dropped)
 }
 
 /// The counts of a run with this draw and so many drawn turns.

@@ -28,11 +28,7 @@ fn finished_by(world: &mut World) -> [bool; 2] {
 
 /// How many entries and records there are, and how many records were dropped.
 fn counted(outcome: &Outcome) -> (usize, usize, u32) {
-    (
-        outcome.entries.len(),
-        outcome.shown.len(),
-        outcome.dropped,
-    )
+    (outcome.entries.len(), outcome.shown.len(), outcome.dropped)
 }
 
 /// The counts of what the world has come to.
@@ -78,7 +74,10 @@ fn kept(outcome: &Outcome) -> Option<(usize, [Mark; 2], [bool; 2])> {
 }
 
 /// The same of what the world has come to.
-fn kept_by(alloc: Global, world: World) -> Result<Option<(usize, [Mark; 2], [bool; 2])>, AllocError> {
+fn kept_by(
+    alloc: Global,
+    world: World,
+) -> Result<Option<(usize, [Mark; 2], [bool; 2])>, AllocError> {
     Ok(kept(&world.outcome(alloc)?))
 }
 
