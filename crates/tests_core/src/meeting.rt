@@ -47,13 +47,13 @@ fn busy(word: u32, found: u64) -> Ran {
 }
 
 /// A turn of the actor at this place.
-fn turn(shared: &Shared, actors: &mut Vec<Actor>, at: usize) -> Ran
+fn turn<G: Gate>(shared: &Shared, actors: &mut Vec<Actor>, at: usize, gate: &G) -> Ran
     requires actors { AreActors shared.now actors.old.items }
     requires inside { at < length actors.old.items }
     ensures actors { AreActors shared.now actors.new.items }
     ensures length { length actors.new.items ≡ length actors.old.items }
 {
-    actors[at].turn(shared, &Free)
+    actors[at].turn(shared, gate)
 }
 
 /// The last actor, and the others are left.
@@ -78,7 +78,7 @@ fn beside_zero(shared: &Shared, zero: &mut Pass, actors: &mut Vec<Actor>, at: us
 {
     match shared.try_control(zero) {
         Ok(control) => {
-            let ran = turn(shared, actors, at);
+            let ran = turn(shared, actors, at, &Free);
             shared.give_control(zero, control);
             Some(ran)
         }
@@ -167,7 +167,10 @@ fn device_meets(
     requires four { length actors.old.items ≡ 4 }
 {
     let beside = beside_zero(shared, zero, actors, 2);
-    let turns = [turn(shared, actors, 0), turn(shared, actors, 2)];
+    let turns = [
+        turn(shared, actors, 0, &Free),
+        turn(shared, actors, 2, &Free),
+    ];
     (beside, turns, ends_of_four(alloc, shared, zero, actors))
 }
 
@@ -239,7 +242,7 @@ fn come_to_accesses(shared: &Shared, actors: &mut Vec<Actor>) -> u64
     };
     for at in TO_ACCESSES {
         if at < 5 {
-            actors[at].turn(shared, &held);
+            turn(shared, actors, at, &held);
         }
     }
     held.pages.load(Ordering::SeqCst)

@@ -30,7 +30,7 @@ fn keeps_its_entries(rt: HostRuntime) -> Result<(), Fail> {
 
 // Two logs: the tickets 0 and 2 are in the first, and 1 in the second.
 fn two_logs(alloc: Global) -> Result<[Log; 2], AllocError>
-    ensures { IfOk result (λ logs. AreTicketed 3 logs) }
+    ensures ticketed { IfOk result (λ logs. AreTicketed 3 logs) }
 {
     let mark = Mark {
         caller: Caller::Driver(1),
@@ -49,7 +49,8 @@ fn two_logs(alloc: Global) -> Result<[Log; 2], AllocError>
 
 #[test]
 fn merges_by_ticket(rt: HostRuntime) -> Result<(), Fail> {
-    let history = merge(rt.alloc(), &two_logs(rt.alloc())?)?;
+    let logs = two_logs(rt.alloc())?;
+    let history = merge(rt.alloc(), &logs)?;
     assert_eq!(rt; history.len(), 3);
     assert_eq!(rt; history[0].bytes.as_slice(), b"a".as_slice());
     assert_eq!(rt; history[1].bytes.as_slice(), b"b".as_slice());
