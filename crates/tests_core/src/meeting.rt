@@ -38,6 +38,21 @@ b5 read 0x1000 1 after b6.1
 b6 write 0x1000 02
 ";
 
+/// How many entries an actor has logged, the ticket and the mark of the first, and whether its bytes are the wanted ones. `None` where
+/// it has logged none.
+type Logged = Option<(usize, u64, Mark, bool)>;
+
+/// The tickets that a back end sees, whether the driver's pass wins the control with the device's turn beside that, and what the
+/// device has logged.
+type EndsOfFour = Option<(u64, (bool, Ran), Logged)>;
+
+/// The device's turn beside pass 0, the driver's next turn and the device's, and the ends of all.
+type DeviceMet = (Option<Ran>, [Ran; 2], EndsOfFour);
+
+/// The first back end's turn with how often it held a page, the other one's turns beside its pass and behind it, and what the other
+/// one has logged.
+type EndsOfFive = Option<((Ran, u64), Option<[Ran; 2]>, Logged)>;
+
 /// A turn that was taken, and in which the actor moved.
 const MOVED: Ran = Ran::Turned(Turned::Moved);
 
@@ -105,15 +120,8 @@ fn seen_by(shared: &Shared, actor: Actor) -> u64
     shared.front(&mut pass)
 }
 
-/// How many entries an actor has logged when it is joined, the ticket and the mark of the first, and whether its bytes are these.
-/// `None` where it has logged none.
-fn logged(
-    alloc: Global,
-    shared: &Shared,
-    zero: &mut Pass,
-    actor: Actor,
-    bytes: &[u8],
-) -> Option<(usize, u64, Mark, bool)>
+/// What an actor has logged when it is joined, and whether the first entry has these bytes.
+fn logged(alloc: Global, shared: &Shared, zero: &mut Pass, actor: Actor, bytes: &[u8]) -> Logged
     requires zero { zero.old.table ≡ shared.now.table }
     requires own { IsPassOf shared.now actor.pass }
     requires other { (view_of actor).number ≢ 0 }
@@ -131,14 +139,13 @@ fn logged(
     }
 }
 
-/// What becomes of four actors: the tickets that the back end sees, whether the driver's pass wins the control, the device's turn
-/// beside that, and what the device has logged.
+/// What becomes of four actors.
 fn ends_of_four(
     alloc: Global,
     shared: &Shared,
     zero: &mut Pass,
     actors: &mut Vec<Actor>,
-) -> Option<(u64, (bool, Ran), Option<(usize, u64, Mark, bool)>)>
+) -> EndsOfFour
     requires zero { zero.old.table ≡ shared.now.table }
     requires actors { AreActors shared.now actors.old.items }
 {
@@ -149,17 +156,13 @@ fn ends_of_four(
     Some((seen, beside, logged(alloc, shared, zero, device, b"")))
 }
 
-/// The device's turn beside pass 0, one of the driver, one of the device, and the ends of all.
+/// The turns of the device and the driver of four actors, and the ends of all.
 fn device_meets(
     alloc: Global,
     shared: &Shared,
     zero: &mut Pass,
     actors: &mut Vec<Actor>,
-) -> (
-    Option<Ran>,
-    [Ran; 2],
-    Option<(u64, (bool, Ran), Option<(usize, u64, Mark, bool)>)>,
-)
+) -> DeviceMet
     requires own { IsPassOf shared.now zero.old }
     requires number { zero.old.view.number ≡ 0 }
     requires empty { zero.old.view.held ≡ None }
@@ -175,19 +178,7 @@ fn device_meets(
 }
 
 /// The same of a run of the script. `None` where it hasn't four actors.
-fn device_meets_in(
-    alloc: Global,
-    script: Script,
-) -> Result<
-    Option<
-        (
-            Option<Ran>,
-            [Ran; 2],
-            Option<(u64, (bool, Ran), Option<(usize, u64, Mark, bool)>)>,
-        ),
-    >,
-    AllocError,
->
+fn device_meets_in(alloc: Global, script: Script) -> Result<Option<DeviceMet>, AllocError>
     requires { IsPlayable script }
 {
     let (shared, mut zero, mut actors) = Opened::build(alloc, script)?.parts();
@@ -276,20 +267,13 @@ fn beside_page(shared: &Shared, one: Actor, other: &mut Actor) -> Option<[Ran; 2
     Some([beside, other.turn(shared, &Free)])
 }
 
-/// What becomes of the back ends of five actors: the first one's access, the other one's turns beside its pass and behind it, and
-/// what the other one has logged.
+/// What becomes of the back ends of five actors.
 fn ends_of_five(
     alloc: Global,
     shared: &Shared,
     zero: &mut Pass,
     actors: &mut Vec<Actor>,
-) -> Option<
-    (
-        (Ran, u64),
-        Option<[Ran; 2]>,
-        Option<(usize, u64, Mark, bool)>,
-    ),
->
+) -> EndsOfFive
     requires zero { zero.old.table ≡ shared.now.table }
     requires memory { 0 < shared.now.script.setup.memory }
     requires actors { AreActors shared.now actors.old.items }
@@ -305,24 +289,7 @@ fn ends_of_five(
 }
 
 /// How often a page was held before, and these ends, of a run of the script. `None` where it hasn't five actors or has no memory.
-fn back_ends_meet_in(
-    alloc: Global,
-    script: Script,
-) -> Result<
-    Option<
-        (
-            u64,
-            Option<
-                (
-                    (Ran, u64),
-                    Option<[Ran; 2]>,
-                    Option<(usize, u64, Mark, bool)>,
-                ),
-            >,
-        ),
-    >,
-    AllocError,
->
+fn back_ends_meet_in(alloc: Global, script: Script) -> Result<Option<(u64, EndsOfFive)>, AllocError>
     requires { IsPlayable script }
 {
     let memory = script.setup.memory;

@@ -16,5 +16,6 @@ pub(crate) fn script_of(alloc: Global, text: &[u8]) -> Result<Script, ScriptFaul
     ensures playable { IfOk result IsPlayable }
 {
     vi_sound::valid_is_playable();
-    parse(alloc, text)
+    let script = parse(alloc, text)?;
+    Ok(script)
 }
