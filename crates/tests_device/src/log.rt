@@ -30,7 +30,7 @@ fn keeps_its_entries(rt: HostRuntime) -> Result<(), Fail> {
 
 // Two logs: the tickets 0 and 2 are in the first, and 1 in the second.
 fn two_logs(alloc: Global) -> Result<[Log; 2], AllocError>
-    ensures ticketed { IfOk result (λ logs. AreTicketed 3 logs) }
+    ensures { IfOk result (λ logs. AreTicketed 3 logs) }
 {
     let mark = Mark {
         caller: Caller::Driver(1),
