@@ -278,7 +278,7 @@ fn summarized<R: Threads + Wait + Sync, G: Gate + Sync>(
 
 /// The load script of so many rounds. An error is want of memory.
 fn load_script(alloc: Global, rounds: u32) -> Result<Script, AllocError>
-    requires rounds { (1 ≤ rounds) × (rounds ≤ 400) }
+    requires { (1 ≤ rounds) × (rounds ≤ 400) }
     ensures script { IfOk result (λ s. texts.script (load_script rounds) ≡ Ok s) }
     ensures valid { IfOk result IsValid }
     ensures fields { IfOk result HasFields }
