@@ -44,7 +44,7 @@ def paths_are_there():
     for path in documents():
         text = read(path)
         for named in sorted(set(re.findall(r"`((?:crates|docs|tests|tools|examples|bench)/[\w./-]*)`", text))):
-            ask(f"{path}: {named} isn't there", os.path.exists(os.path.join(TOP, named)) or "NAME" in named)
+            ask(f"{path}: {named} isn't there", os.path.exists(os.path.join(TOP, named)) or "NAME" in named or "/out/" in named)
         for named in sorted(set(re.findall(r"\]\(([^)#:]+)\)", text))):
             ask(f"{path}: a link to {named}", os.path.exists(os.path.join(TOP, os.path.dirname(path), named)))
 
