@@ -8,6 +8,7 @@ import html.parser
 import json
 import os
 import random
+import re
 import shutil
 import subprocess
 import sys
@@ -38,6 +39,10 @@ def call(tool, *words, data="", top=TOP):
 def read(name):
     with open(os.path.join(EXAMPLES, name), encoding="ascii") as file:
         return file.read()
+
+
+# The forms of a sequence diagram's lines that are used, with no byte in a text that ends it.
+MERMAID = re.compile(r"  (participant \w+ as [\w ,]+|Note over \w+(,\w+)?: [^;#:]+|\w+(->>|-x)\w+: [^;#:]+)")
 
 
 class Tags(html.parser.HTMLParser):
@@ -77,6 +82,7 @@ def examples_are_drawn():
         status, out, said = call("show.py", script, report, "--mermaid")
         ask(f"{name}: mermaid", (status, said, out.splitlines()[0], out.count(">>dev") + out.count("-xdev"), out.count("Note over")),
             (0, "", "sequenceDiagram", entries, waits))
+        ask(f"{name}: mermaid, its lines", [line for line in out.splitlines()[1:] if not MERMAID.fullmatch(line)], [])
         status, out, said = call("show.py", script, report, "--html")
         is_closed, counts = tags_of(out)
         ask(f"{name}: page", (status, said, is_closed, counts["rect"], counts["path"]), (0, "", True, entries, waits + 1))
@@ -95,8 +101,9 @@ def misfits_are_named(room):
         found = json.loads(out)
         ask(what, (status, len(found["entries"]), found["misfit"]), (1, drawn, misfit))
         ask(f"{what}, said", said, f"show.py: the report doesn't fit its script, {misfit}\n")
-        for form in ("--html", "--mermaid"):
-            ask(f"{what}, {form}", call("show.py", script, path, form)[0], 1)
+        ask(f"{what}, page", call("show.py", script, path, "--html")[0], 1)
+        status, out, said = call("show.py", script, path, "--mermaid")
+        ask(f"{what}, mermaid", (status, [line for line in out.splitlines()[1:] if not MERMAID.fullmatch(line)]), (1, []))
 
     shown("an entry that isn't one", [*lines[:5], "5 b6.1.1 looked", *lines[6:]], 4, "entry 5: its line isn't an entry: '5 b6.1.1 looked'")
     shown("a wrong number", [*lines[:5], "6 b6.1.1 read 01", *lines[6:]], 4, "entry 5: it is numbered 6")

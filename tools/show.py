@@ -12,6 +12,7 @@ The status is 0, or 1 where there is a misfit, or 2 where the words, the script 
 import html
 import json
 import os
+import re
 import sys
 
 import reading
@@ -70,7 +71,7 @@ def mermaid(history):
     """A sequence diagram. A driver's requests and a back end's accesses are both answered by the device."""
     yield "sequenceDiagram"
     for caller in history.script.callers:
-        yield f"  participant {caller} as {caller}: {about(caller)}"
+        yield f"  participant {caller} as {caller}, {about(caller)}"
     yield "  participant dev as device"
     for entry in history.entries:
         caller = entry.line.caller
@@ -79,7 +80,7 @@ def mermaid(history):
         arrow = "-x" if entry.kind == "fault" else "->>"
         yield f"  {caller}{arrow}dev: {entry.number}. {cut(entry.line.job, 40)} = {answered(entry)}"
     if history.misfit:
-        yield f"  Note over dev: here it ends - {history.misfit.replace(';', ',').replace('#', '')}"
+        yield "  Note over dev: here it ends - " + re.sub("[;#:]", ",", history.misfit)
 
 
 def as_json(history):
