@@ -9,12 +9,13 @@ use std::io::{self, Read, Write};
 use std::test::Fail;
 use vi_bytes::{Bytes, Items};
 use vi_commands::{
-    INPUT_LIMIT, InputFault, ListSink, ListSource, Reading, Status, Writing, number, one_thread,
-    plain_top, read_input, write_text,
+    INPUT_LIMIT, InputFault, ListSink, ListSource, Reading, Status, Writing, one_thread, plain_top,
+    read_input, write_text,
 };
 use vi_lines::Script;
 use vi_make::{make, summary};
 use vi_script::{BadKind, parse};
+use vi_words::number;
 
 /// The words of a command line that is split at spaces.
 pub(crate) fn split(alloc: Global, line: &str) -> Result<Vec<String>, Fail> {

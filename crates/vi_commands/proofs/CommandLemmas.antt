@@ -5,7 +5,7 @@ use Rattle.std.specs.declared.option.Option.{Option}
 use Rattle.std.specs.Str.{bytes_eq}
 use Rattle.std.proofs.lemmas.Bool.{leb-true, false_from_ne_true}
 use Rattle.std.proofs.lemmas.Slice.Eq.{bytes_eq-Decides}
-use Rattle.vi_commands.specs.Words.{number_of}
+use Rattle.vi_words.specs.Numbers.{number_of}
 use Rattle.vi_commands.specs.Command.{sim_for, sim_of, make_for, make_of, alone, named, command_of, command_in, IsForm}
 use Rattle.vi_commands.specs.declared.command.TheConstants.{MOST_MOVES}
 use Rattle.vi_commands.specs.declared.command.Command.TheVariants.{Script, Make}

@@ -3,7 +3,6 @@ pub mod CommandLemmas
 pub mod EndLemmas
 pub mod KnownBytesLemmas
 pub mod Moved
-pub mod Numerals
 pub mod WorkLemmas
 pub mod TakenLemmas
 pub mod ReplyLemmas

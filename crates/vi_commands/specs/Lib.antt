@@ -7,7 +7,6 @@ pub mod Output
 pub mod Standard
 pub mod Status
 pub mod Top
-pub mod Words
 pub mod Work
 pub mod Counts
 pub mod Made

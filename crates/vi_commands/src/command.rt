@@ -2,7 +2,7 @@
 ghost use Rattle.std.specs.Prelude.{◌≡◌, map, string_bytes};
 ghost use Rattle.vi_commands.specs.Command.{alone, command_in, make_for, make_of, named, sim_for, sim_of};
 
-use crate::words::number;
+use vi_words::number;
 
 /// How many turns of drawn actors a run has at most.
 pub const MOST_MOVES: u32 = 1_000_000;

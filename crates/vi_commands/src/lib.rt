@@ -16,7 +16,6 @@ mod outside;
 mod standard;
 mod status;
 mod top;
-mod words;
 mod work;
 
 pub use command::{Command, MOST_MOVES, Task};
@@ -30,4 +29,3 @@ pub use outside::{Failed, Sink, Source};
 pub use standard::{Reading, Writing};
 pub use status::{Status, TOO_LONG, USAGE};
 pub use top::{CHECK_LIMIT, INPUT_LIMIT, plain_top};
-pub use words::number;

@@ -22,6 +22,7 @@ use Rattle.vi_order.proofs.Unmapped.{unmaps_hold}
 use Rattle.vi_run.specs.Runs.{FinishedValue, CameTo}
 use Rattle.vi_commands.specs.Causes.{Rose}
 use Rattle.vi_commands.specs.Output.{TakesProperPrefix}
+use Rattle.vi_threaded.specs.Histories.{WritesHistory}
 use Rattle.vi_threaded.specs.Running.{RanTo, Reports, Summarizes, Refuses, IsRunDue, too_long, refused, reports, summarizes, EndsRun, delivered, cut, not_read, no_memory, WritesRun, WritesSummary, IsRunWithin, IsRunRefused, IsRunTooLong}
 use Rattle.vi_commands.specs.Status.{bad_script_text}
 use Rattle.vi_commands.specs.Top.{Outside, IsFault}
@@ -42,11 +43,13 @@ ran_to s f o is came well =
     record {
       script_is = is;
       came = came;
-      made = well;
-      ordered = subst (λ (x : Outcome). IsOrdered s x.entries) (sym came.outcome) (finished_is_ordered s w play sound (finished_has_finished s w ended));
-      legal = lawful;
-      records = subst (λ (x : Outcome). HasRecords s x) (sym came.outcome) (outcome_records s w play sound);
-      unmapped = unmaps_hold s o.entries lawful;
+      history = record {
+        made = well;
+        ordered = subst (λ (x : Outcome). IsOrdered s x.entries) (sym came.outcome) (finished_is_ordered s w play sound (finished_has_finished s w ended));
+        legal = lawful;
+        records = subst (λ (x : Outcome). HasRecords s x) (sym came.outcome) (outcome_records s w play sound);
+        unmapped = unmaps_hold s o.entries lawful;
+      };
     }
 
 -- the text that is due is written, or the call ends with a write fault
@@ -128,6 +131,20 @@ module _ (form : Threaded) (old new : Outside) (run : Option FinishedValue) (sta
   no_usage (cut _ s) is = absurd (cc (s, is))
   no_usage (not_read _ _ _ _ _ s) is = absurd (cc (s, is))
   no_usage (no_memory _ _ s) is = absurd (cc (s, is))
+
+-- what a run's report says without the run
+pub history_written : (old new : Outside) (run : Option FinishedValue) → WritesRun old new run → WritesHistory old.left new.left old.taken new.taken
+history_written old new run w = record {
+  input = w.reports.input;
+  read = w.reports.read;
+  within = w.reports.within;
+  s = w.reports.s;
+  is_script = w.reports.is_script;
+  outcome = w.reports.of_run.outcome;
+  history = w.reports.of_run.ran.history;
+  typed = w.reports.of_run.typed;
+  took = subst (λ (bytes : List ℕ). Appends old.taken new.taken bytes) w.reports.of_run.report w.took;
+}
 
 -- ---- where the source tells what is left
 

@@ -5,7 +5,7 @@ use Rattle.std.specs.declared.option.Option.{Option}
 use Rattle.std.specs.Str.{bytes_eq}
 use Rattle.std.proofs.lemmas.Bool.{leb-true, false_from_ne_true}
 use Rattle.std.proofs.lemmas.Slice.Eq.{bytes_eq-Decides}
-use Rattle.vi_commands.specs.Words.{number_of}
+use Rattle.vi_words.specs.Numbers.{number_of}
 use Rattle.vi_threaded.specs.Threads.{run_for, run_of, load_for, load_of, threaded_named, IsThreaded}
 use Rattle.vi_threaded.specs.declared.threaded.TheConstants.{MOST_WORKERS}
 use Rattle.vi_threaded.specs.declared.threaded.Threaded.{Threaded}

@@ -3,15 +3,11 @@ use Rattle.std.specs.Prelude.{◌≡◌, ◌≤◌, ◌<◌, ◌⊎◌, ℕ, Lis
 use Rattle.std.specs.Prelude as std
 use Rattle.std.specs.declared.option.Option.{Option}
 use Rattle.std.specs.Io.KnownBytes.{Appends, Keeps}
-use Rattle.vi_history.specs.Outcomes.{IsWellMade}
 use Rattle.vi_history.specs.declared.outcome.Outcome.{Outcome}
 use Rattle.vi_report.specs.Texts.{text}
 use Rattle.vi_report.specs.Types.{IsTyped}
 use Rattle.vi_lines.specs.Value.{ScriptValue}
 use Rattle.vi_script.specs.Texts.{script, Bad}
-use Rattle.vi_lines.specs.Legal.{IsLegalHistory, HasRecords}
-use Rattle.vi_lines.specs.Ordered.{IsOrdered}
-use Rattle.vi_order.specs.Unmapped.{FaultsBehindUnmaps}
 use Rattle.vi_make.specs.LoadScript.{load_script}
 use Rattle.vi_make.specs.Summaries.{summary_line}
 use Rattle.vi_run.specs.Runs.{FinishedValue, CameTo}
@@ -20,23 +16,19 @@ use Rattle.vi_commands.specs.Input.{ReadsAll, IsPast}
 use Rattle.vi_commands.specs.Output.{TakesProperPrefix}
 use Rattle.vi_commands.specs.Status.{status_text}
 use Rattle.vi_commands.specs.Top.{Outside, IsFault}
+use Rattle.vi_threaded.specs.Histories.{HasHistory}
 use Rattle.vi_threaded.specs.declared.threaded.Threaded.{Threaded}
 use Rattle.vi_threaded.specs.declared.threaded.Threaded.TheVariants.{Run, Load}
 use Rattle.vi_commands.specs.declared.status.Status.{Status}
 use Rattle.vi_commands.specs.declared.status.Status.TheVariants.{Ok, BadScript, TooLong, ReadFault, WriteFault, OutOfMemory}
 use Rattle.vi_commands.specs.declared.top.TheConstants.{INPUT_LIMIT}
 
--- A run of the script on threads came to this outcome, which has the entries of its own logs by rising ticket. Every line of the
--- script is in its history, in order; it is legal, its fault records are shown well, and nothing in it goes through
--- what was unmapped.
+-- A run of the script on threads came to this outcome, which has the entries of its own logs by rising ticket, and a history that is
+-- in order and legal.
 pub record RanTo (s : ScriptValue) (f : FinishedValue) (o : Outcome) : Type 0 where
   pub script_is : f.last.script ≡ s
   pub came : CameTo f o
-  pub made : IsWellMade o
-  pub ordered : IsOrdered s o.entries
-  pub legal : IsLegalHistory s o.entries
-  pub records : HasRecords s o
-  pub unmapped : FaultsBehindUnmaps s o.entries
+  pub history : HasHistory s o
 
 -- the text is the report of a run of the script, and determines its outcome
 pub record ReportsRun (s : ScriptValue) (f : FinishedValue) (answer : List ℕ) : Type 0 where

@@ -2,7 +2,7 @@
 use Rattle.std.specs.Prelude.{◌≤◌, ℕ, ◌&&◌, nat_le, if◌then◌else◌, List, [], ◌∷◌, map, String, string_bytes, Some, None, codes}
 use Rattle.std.specs.declared.option.Option.{Option}
 use Rattle.std.specs.Str.{bytes_eq}
-use Rattle.vi_commands.specs.Words.{number_of}
+use Rattle.vi_words.specs.Numbers.{number_of}
 use Rattle.vi_threaded.specs.declared.threaded.TheConstants.{MOST_WORKERS}
 use Rattle.vi_threaded.specs.declared.threaded.Threaded.{Threaded}
 use Rattle.vi_threaded.specs.declared.threaded.Threaded.TheVariants.{Run, Load}

@@ -1,5 +1,5 @@
 //! The commands that run threads, and the program as one call with them.
-ghost use Rattle.std.specs.Prelude.{◌≡◌, ◌≤◌, ◌⊎◌, ℕ, List, length, Ok, Some, None, IfOk};
+ghost use Rattle.std.specs.Prelude.{◌≡◌, ◌≤◌, ◌+◌, ◌⊎◌, ℕ, List, length, Ok, Some, None, IfOk};
 ghost use Rattle.std.specs.declared.option.Option.{Option};
 ghost use Rattle.std.specs.Io.KnownBytes.{Appends, Keeps};
 ghost use Rattle.vi_lines.specs.Fields.{HasFields};
@@ -9,8 +9,9 @@ ghost use Rattle.vi_make.specs.LoadScript.{load_script};
 ghost use Rattle.vi_commands.specs.Accepted.{task_of};
 ghost use Rattle.vi_commands.specs.Causes.{Rose};
 ghost use Rattle.vi_commands.specs.Command.{command_in};
-ghost use Rattle.vi_commands.specs.Input.{ReadsAll};
+ghost use Rattle.vi_commands.specs.Input.{ReadsAll, TakesAtMost};
 ghost use Rattle.vi_commands.specs.Output.{TakesProperPrefix};
+ghost use Rattle.vi_threaded.specs.Histories.{WritesHistory};
 ghost use Rattle.vi_threaded.specs.Running.{EndsRun, IsRunRefused, IsRunTooLong, IsRunWithin, RanTo, ReportsRun, Summarizes, SumsRun, WritesRun, WritesSummary};
 ghost use Rattle.vi_commands.specs.Status.{bad_script_text};
 ghost use Rattle.vi_threaded.specs.Threads.{IsThreaded, threaded_in};
@@ -54,6 +55,9 @@ pub fn top<R: Threads + Wait + Sync, S: Source, K: Sink, G: Gate + Sync>(
     ensures run { (workers : ℕ) → threaded_in words.now ≡ Some (Threaded.Run workers) → result.status ≡ Status.Ok → WritesRun
         (record { left = S.left source.old; read_faults = S.faults source.old; taken = K.taken sink.old; write_faults = K.faults sink.old })
         (record { left = S.left source.new; read_faults = S.faults source.new; taken = K.taken sink.new; write_faults = K.faults sink.new }) result.run }
+    // The same without the run and its logs: what the source and the sink say.
+    ensures run_is_plain { (workers : ℕ) → threaded_in words.now ≡ Some (Threaded.Run workers) → result.status ≡ Status.Ok → WritesHistory
+        (S.left source.old) (S.left source.new) (K.taken sink.old) (K.taken sink.new) }
     ensures accepted { (workers : ℕ) → threaded_in words.now ≡ Some (Threaded.Run workers) → IsRunWithin (S.left source.old) result.status }
     ensures refused { (workers : ℕ) → threaded_in words.now ≡ Some (Threaded.Run workers) → IsRunRefused (S.left source.old) result.status }
     ensures too_long { (workers : ℕ) → threaded_in words.now ≡ Some (Threaded.Run workers) → IsRunTooLong (S.left source.old) result.status }
@@ -83,6 +87,10 @@ pub fn top<R: Threads + Wait + Sync, S: Source, K: Sink, G: Gate + Sync>(
     ensures plain_ok { (task : Task) → threaded_in words.now ≡ None → task_of (command_in words.now) ≡ Some task → result.status ≡ Status.Ok → Writes task
         (S.left source.old) (S.left source.new) (K.taken sink.old) (K.taken sink.new) }
     ensures no_run { threaded_in words.now ≡ None → result.run ≡ None }
+
+    // How much is read: a script that is over its limit by a piece at most, and nothing where no script is wanted.
+    ensures reads_at_most { (workers : ℕ) → threaded_in words.now ≡ Some (Threaded.Run workers) → TakesAtMost (INPUT_LIMIT + 4096) (S.left source.old) (S.left source.new) }
+    ensures reads_nothing { threaded_in words.now ≡ None → task_of (command_in words.now) ≡ None → source.new ≡ source.old }
 
     ensures read_faults { S.faults source.old ≤ S.faults source.new }
     ensures write_faults { K.faults sink.old ≤ K.faults sink.new }
@@ -127,6 +135,7 @@ fn run_form<R: Threads + Wait + Sync, S: Source, K: Sink, G: Gate + Sync>(
         (record { left = S.left source.old; read_faults = S.faults source.old; taken = K.taken sink.old; write_faults = K.faults sink.old })
         (record { left = S.left source.new; read_faults = S.faults source.new; taken = K.taken sink.new; write_faults = K.faults sink.new })
         result.run result.status }
+    ensures at_most { (workers : ℕ) → form ≡ Threaded.Run workers → TakesAtMost (INPUT_LIMIT + 4096) (S.left source.old) (S.left source.new) }
     ensures unread { (rounds workers : ℕ) → form ≡ Threaded.Load rounds workers → source.new ≡ source.old }
     ensures read_count { S.faults source.old ≤ S.faults source.new }
     ensures write_count { K.faults sink.old ≤ K.faults sink.new }
@@ -151,6 +160,7 @@ fn run_input<R: Threads + Wait + Sync, S: Source, K: Sink, G: Gate + Sync>(
         (record { left = S.left source.old; read_faults = S.faults source.old; taken = K.taken sink.old; write_faults = K.faults sink.old })
         (record { left = S.left source.new; read_faults = S.faults source.new; taken = K.taken sink.new; write_faults = K.faults sink.new })
         result.run result.status }
+    ensures at_most { TakesAtMost (INPUT_LIMIT + 4096) (S.left source.old) (S.left source.new) }
     ensures read_count { S.faults source.old ≤ S.faults source.new }
     ensures write_count { K.faults sink.old ≤ K.faults sink.new }
 {

@@ -2,7 +2,7 @@
 ghost use Rattle.std.specs.Prelude.{◌≡◌, map, string_bytes, IfSome};
 ghost use Rattle.vi_threaded.specs.Threads.{IsThreaded, load_for, load_of, run_for, run_of, threaded_in, threaded_named};
 
-use vi_commands::number;
+use vi_words::number;
 
 /// How many workers a run has at most.
 pub const MOST_WORKERS: u64 = 16;

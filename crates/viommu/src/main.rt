@@ -3,6 +3,7 @@
 
 use std::alloc::AllocError;
 use std::env;
+use std::io::ErrorKind;
 use std::process::ExitCode;
 use std::rt::Env;
 use vi_commands::{Reading, Status, Writing};
@@ -20,10 +21,11 @@ fn main(rt: HostRuntime) -> ExitCode {
 }
 
 /// The words behind the program's name. Where they can't be read as text there are none, and so
-/// they are no form of the command line.
+/// they are no form of the command line. An error is want of memory.
 fn read_words(rt: &(impl Env + AllocGlobal)) -> Result<Vec<String>, AllocError> {
     match env::args(rt) {
         Ok(words) => words.skip(1).collect(rt.alloc()),
+        Err(error) if error.kind() == ErrorKind::OutOfMemory => Err(AllocError),
         Err(_) => Ok(Vec::new(rt.alloc())),
     }
 }
