@@ -4,3 +4,6 @@ pub mod Once
 pub mod Waiting
 pub mod Outlives
 pub mod Granted
+pub mod Stepping
+pub mod ReadingLemmas
+pub mod JudgingLemmas
