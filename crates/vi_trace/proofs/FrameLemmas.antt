@@ -1,14 +1,12 @@
 -- Bytes are one frame, so an event is of one kind.
-use Rattle.std.proofs.Common.{◌≡◌, ℕ, List, refl, ap, sym, ◌∙◌}
+use Rattle.std.proofs.Common.{◌≡◌, ℕ, List}
 use Rattle.vi_bytes.specs.declared.span.Span.{Span}
-use Rattle.vi_bytes.specs.declared.lease.Need.{Need}
 use Rattle.vi_iotlb.specs.Frames.{ReadAs}
-use Rattle.vi_iotlb.specs.declared.frame.Frame.{Frame}
 use Rattle.vi_iotlb.specs.declared.frame.Frame.TheVariants as frame
 use Rattle.vi_iotlb.proofs.OneReading.{one_frame}
 use Rattle.vi_trace.specs.declared.trace.Event.{Event}
 use Rattle.vi_trace.specs.declared.trace.Event.TheVariants.{Down, Up, Access}
-use Rattle.vi_trace.specs.Lawful.{Invalidates, IsInvalidate, IsAck, Updates, Gives}
+use Rattle.vi_trace.specs.Lawful.{Invalidates, IsAck, Updates}
 
 -- the parts of an Update that bytes are
 pub record SameUpdate (page count target perm page' count' target' perm' : ℕ) : Type 0 where

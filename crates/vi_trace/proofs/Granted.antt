@@ -1,5 +1,5 @@
 -- Uses are granted: where each page of the greatest cache comes from.
-use Rattle.std.proofs.Common.{zero, suc, ◌≡◌, ◌≤◌, ◌<◌, ◌+◌, ◌/◌, ℕ, Bool, true, false, not, List, [], ◌∷◌, ◌++◌, length, refl, ap, sym, ◌∙◌, subst, arith, inl, inr}
+use Rattle.std.proofs.Common.{zero, suc, ◌≡◌, ◌≤◌, ◌<◌, ◌+◌, ◌/◌, ℕ, true, not, List, [], ◌∷◌, ◌++◌, length, ap, sym, ◌∙◌, subst, arith, inl, inr}
 use Rattle.std.specs.Prelude.{◌⊎◌, filter}
 use Rattle.std.proofs.lemmas.Bool.{cases_Bool, cases_lt}
 use Rattle.vi_bytes.specs.Spans.{Meets, meets, page_span}
@@ -12,12 +12,12 @@ use Rattle.vi_trace.specs.declared.finding.Finding.TheVariants.{Held}
 use Rattle.vi_trace.specs.declared.trace.Event.{Event}
 use Rattle.vi_trace.specs.declared.trace.Event.TheVariants.{Down, Up, Access}
 use Rattle.vi_trace.specs.declared.trace.TraceLine.{TraceLine}
-use Rattle.vi_trace.specs.Rules.{Kept, Known, nothing_known, Goes, Judges, allows, perm_of, pages_kept, takes, updated, invalidated, acknowledged, used}
-use Rattle.vi_trace.specs.Lawful.{Updates, Gives, Permits, IsAck, At, UpdatesAt, GrantsAt, AcksAt, AccessesAt, Acknowledges, Counts}
+use Rattle.vi_trace.specs.Rules.{Known, nothing_known, Goes, Judges, allows, perm_of, pages_kept, takes, updated, invalidated, acknowledged, used}
+use Rattle.vi_trace.specs.Lawful.{Updates, Permits, IsAck, UpdatesAt, GrantsAt, AcksAt, AccessesAt, Acknowledges, Counts}
 use Rattle.vi_trace.specs.Laws.{UsesAreGranted}
-use Rattle.vi_trace.proofs.FrameLemmas.{SameUpdate, one_update, no_update}
+use Rattle.vi_trace.proofs.FrameLemmas.{one_update, no_update}
 use Rattle.vi_trace.proofs.Numbers.{meets-from_Meets, perm_of-within, perm_of-beside, perm_of-left, perm_of-taken, nothing_allowed}
-use Rattle.vi_trace.proofs.Waiting.{Taken, taken_line, Queue, quiet, joins, leaves, queue, count_none, Waits, Comes, waits_on, begins_to_wait, comes_on}
+use Rattle.vi_trace.proofs.Waiting.{taken_line, Queue, quiet, joins, leaves, queue, count_none, Waits, Comes, waits_on, begins_to_wait, comes_on}
 use Rattle.vi_trace.proofs.Outlives.{from_start}
 
 -- the span that the Ack at j takes: it waits, or is still to come
@@ -57,17 +57,17 @@ Comes_from known e page need = Permits page need e ⊎ Lasts known e page need
 beside_update : (known : Known) (bytes : List ℕ) (page first count target perm : ℕ) (need : Need) → ReadAs bytes (frame.Update first count target perm) → (page < first) ⊎ (first + count ≤ page)
     → allows need (perm_of page (pages_kept first count perm ++ known.cache)) ≡ true → Lasts known (Down bytes) page need
 beside_update known bytes page first count target perm need reads apart allowed = record {
-    allowed = rw (perm_of-beside first count perm page known.cache apart) at allowed;
-    not_updated = λ u.
-        let g = u.1 in
-        let same = one_update bytes g.first g.count g.target u.0 first count target perm g.reads reads in
-        let firsts : g.first ≡ first = same.page_is in
-        let counts : g.count ≡ count = same.count_is in
-        let from : g.first ≤ page = g.from_first in
-        let to : page < g.first + g.count = g.to_last in
-        elim apart [ inl low ↦ omega arith | inr high ↦ omega arith ];
-    not_taken = λ s ss ack. absurd ack;
-  }
+  allowed = rw (perm_of-beside first count perm page known.cache apart) at allowed;
+  not_updated = λ u.
+      let g = u.1 in
+      let same = one_update bytes g.first g.count g.target u.0 first count target perm g.reads reads in
+      let firsts : g.first ≡ first = same.page_is in
+      let counts : g.count ≡ count = same.count_is in
+      let from : g.first ≤ page = g.from_first in
+      let to : page < g.first + g.count = g.to_last in
+      elim apart [ inl low ↦ omega arith | inr high ↦ omega arith ];
+  not_taken = λ s ss ack. absurd ack;
+}
 
 behind_update : (known : Known) (bytes : List ℕ) (page first count target perm : ℕ) (need : Need) → ReadAs bytes (frame.Update first count target perm)
     → allows need (perm_of page (pages_kept first count perm ++ known.cache)) ≡ true → Comes_from known (Down bytes) page need
@@ -75,9 +75,9 @@ behind_update known bytes page first count target perm need reads allowed =
     elim (cases_lt page first) [
       | inl low ↦ inr (beside_update known bytes page first count target perm need reads (inl low) allowed)
       | inr from ↦ elim (cases_lt page (first + count)) [
-          | inl to ↦ inl (perm, record { first = first; count = count; target = target; reads = reads; from_first = from; to_last = to }, (rw (perm_of-within first count perm page known.cache from to) at allowed))
-          | inr high ↦ inr (beside_update known bytes page first count target perm need reads (inr high) allowed)
-        ]
+        | inl to ↦ inl (perm, record { first = first; count = count; target = target; reads = reads; from_first = from; to_last = to }, (rw (perm_of-within first count perm page known.cache from to) at allowed))
+        | inr high ↦ inr (beside_update known bytes page first count target perm need reads (inr high) allowed)
+      ]
     ]
 
 behind_ack : (known : Known) (bytes : List ℕ) (page : ℕ) (need : Need) (span : Span) (spans : List Span) → known.waiting ≡ span ∷ spans
@@ -89,23 +89,23 @@ behind_ack known bytes page need span spans begins allowed =
           let not_so = nothing_allowed need in
           absurd (cc)
       | inr apart ↦ record {
-          allowed = rw (perm_of-left span page known.cache apart) at allowed;
-          not_updated = λ u. u;
-          not_taken = λ s ss ack first share.
-              let both : span ∷ spans ≡ s ∷ ss = sym begins ∙ first in
-              let same : s ≡ span = cc in
-              let met : meets (page_span page) span ≡ true = meets-from_Meets (page_span page) span (subst (λ (x : Span). Meets (page_span page) x) same share) in
-              cc;
-        }
+        allowed = rw (perm_of-left span page known.cache apart) at allowed;
+        not_updated = λ u. u;
+        not_taken = λ s ss ack first share.
+            let both : span ∷ spans ≡ s ∷ ss = sym begins ∙ first in
+            let same : s ≡ span = cc in
+            let met : meets (page_span page) span ≡ true = meets-from_Meets (page_span page) span (subst (λ (x : Span). Meets (page_span page) x) same share) in
+            cc;
+      }
     ]
 
 comes_from : (known more : Known) (e : Event) (page : ℕ) (need : Need) → Goes known e more → allows need (perm_of page more.cache) ≡ true → Comes_from known e page need
 comes_from known more e page need (updated bytes first count target perm reads clear) allowed = behind_update known bytes page first count target perm need reads allowed
 comes_from known more e page need (invalidated bytes span reads) allowed = inr (record {
-    allowed = allowed;
-    not_updated = λ u. no_update bytes span u.1.first u.1.count u.1.target u.0 reads u.1.reads;
-    not_taken = λ s ss ack. absurd ack;
-  })
+  allowed = allowed;
+  not_updated = λ u. no_update bytes span u.1.first u.1.count u.1.target u.0 reads u.1.reads;
+  not_taken = λ s ss ack. absurd ack;
+})
 comes_from known more e page need (acknowledged bytes span spans reads begins) allowed = inr (behind_ack known bytes page need span spans begins allowed)
 comes_from known more e page need (used address n has) allowed = inr (record { allowed = allowed; not_updated = λ u. u; not_taken = λ s ss ack. absurd ack })
 
@@ -157,8 +157,8 @@ not_taken_at_all known more l ls m page need q lasts apart (suc j) span low high
 granted_on : (known more : Known) (l : TraceLine) (ls : List TraceLine) (m page : ℕ) (need : Need) → Goes known l.event more → Granted more ls m page need → Granted known (l ∷ ls) (suc m) page need
 granted_on known more l ls m page need taken (within u below grants apart kept) =
     within (suc u) (omega arith) grants
-        (λ v low high. not_updated_on l ls (u + 1) m page apart v (omega arith) high)
-        (λ j span low high. not_taken_on known more l ls (u + 1) m page (queue known more l.event taken) kept j span (omega arith) high)
+    (λ v low high. not_updated_on l ls (u + 1) m page apart v (omega arith) high)
+    (λ j span low high. not_taken_on known more l ls (u + 1) m page (queue known more l.event taken) kept j span (omega arith) high)
 granted_on known more l ls m page need taken (above allowed apart kept) =
     elim (comes_from known more l.event page need taken allowed) [
       | inl permits ↦
@@ -179,8 +179,8 @@ granted (suc m) (l ∷ ls) known address need holds accesses =
 -- nothing is known above the first line, so the right comes from an Update
 from_update : (lines : List TraceLine) (m page : ℕ) (need : Need) → Granted nothing_known lines m page need
     → (u : ℕ) × (u < m) × GrantsAt lines u page need
-      × ((v : ℕ) → u < v → v < m → ¬ UpdatesAt lines v page)
-      × ((i j : ℕ) (span : Span) → Acknowledges lines i j span → u < j → j < m → ¬ Meets (page_span page) span)
+    × ((v : ℕ) → u < v → v < m → ¬ UpdatesAt lines v page)
+    × ((i j : ℕ) (span : Span) → Acknowledges lines i j span → u < j → j < m → ¬ Meets (page_span page) span)
 from_update lines m page need (above allowed apart kept) = let not_so = nothing_allowed need in absurd (cc)
 from_update lines m page need (within u below grants apart kept) =
     (u, below, grants, λ v low high. apart v (omega arith) high, λ i j span a low high. kept j span (omega arith) high a.acks (comes i (from_start lines i j span a)))

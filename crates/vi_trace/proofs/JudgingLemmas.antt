@@ -1,5 +1,5 @@
 -- A trace line by line: what the rest is found to be behind a line, it is with the line.
-use Rattle.std.proofs.Common.{◌≡◌, ◌<◌, ◌≤◌, ◌+◌, ℕ, List, [], ◌∷◌, length, drop, get_or, Some, None, Option, refl, ap, sym, ◌∙◌, subst}
+use Rattle.std.proofs.Common.{◌≡◌, ◌<◌, ◌≤◌, ◌+◌, ℕ, List, ◌∷◌, length, drop, get_or, Some, None, Option, ap, sym, ◌∙◌, subst}
 use Rattle.std.proofs.lemmas.List.{drop_more, at_drop_all}
 use Rattle.vi_trace.specs.declared.finding.Rule.{Rule}
 use Rattle.vi_trace.specs.declared.finding.Finding.{Finding}

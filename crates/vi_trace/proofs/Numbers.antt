@@ -1,15 +1,15 @@
 -- Pages, spans and permissions as numbers.
-use Rattle.std.proofs.Common.{zero, suc, ◌≡◌, ◌≢◌, ◌≤◌, ◌<◌, ◌+◌, ◌*◌, ◌/◌, ℕ, Bool, true, false, not, List, [], ◌∷◌, ◌++◌, refl, ap, sym, ◌∙◌, arith, inl, inr, cond, IsTrue}
-use Rattle.std.specs.Prelude.{filter, nat_le, ◌⊎◌, ◌==◌}
+use Rattle.std.proofs.Common.{zero, suc, ◌≡◌, ◌≢◌, ◌≤◌, ◌<◌, ◌+◌, ℕ, Bool, true, false, not, List, [], ◌∷◌, ◌++◌, refl, arith, inl, inr}
+use Rattle.std.specs.Prelude.{filter, ◌⊎◌, ◌==◌}
 use Rattle.std.specs.List.{list_any}
-use Rattle.std.proofs.lemmas.Bool.{cases_Bool, cases_eq, cases_lt}
+use Rattle.std.proofs.lemmas.Bool.{cases_Bool, cases_eq}
 use Rattle.std.proofs.lemmas.Bool.Decides.{nat_tests}
 use Rattle.vi_bytes.specs.Spans.{Meets, meets, page_span}
 use Rattle.vi_bytes.specs.declared.span.Span.{Span}
 use Rattle.vi_bytes.specs.declared.lease.Need.{Need}
 use Rattle.vi_bytes.specs.declared.lease.Need.TheVariants.{Read, Write}
-use Rattle.vi_bytes.proofs.SpanLemmas.{ends-from_Meets, apart-from_meets}
-use Rattle.vi_trace.specs.Rules.{Kept, allows, perm_of, pages_kept, pages_span, takes, update_meets}
+use Rattle.vi_bytes.proofs.SpanLemmas.{ends-from_Meets}
+use Rattle.vi_trace.specs.Rules.{Kept, allows, perm_of, pages_kept, takes, update_meets}
 
 -- spans that share an address meet by their ends
 pub meets-from_Meets : (s t : Span) → Meets s t → meets s t ≡ true

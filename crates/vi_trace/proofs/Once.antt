@@ -1,16 +1,16 @@
 -- Exactly one rule applies to an event, so a trace has one finding at most.
-use Rattle.std.proofs.Common.{◌≡◌, ℕ, true, false, not, List, [], ◌∷◌, ◌++◌, refl, ap, sym, ◌∙◌, subst}
+use Rattle.std.proofs.Common.{◌≡◌, ℕ, not, List, [], ◌∷◌, ◌++◌, refl, ap, sym, ◌∙◌, subst}
 use Rattle.std.specs.Prelude.{filter}
 use Rattle.vi_bytes.specs.declared.span.Span.{Span}
 use Rattle.vi_iotlb.specs.declared.frame.Frame.TheVariants as frame
 use Rattle.vi_trace.specs.declared.finding.Rule.{Rule}
 use Rattle.vi_trace.specs.declared.finding.Finding.{Finding}
-use Rattle.vi_trace.specs.declared.finding.Finding.TheVariants.{Held, Broken}
+use Rattle.vi_trace.specs.declared.finding.Finding.TheVariants.{Broken}
 use Rattle.vi_trace.specs.declared.trace.Event.{Event}
 use Rattle.vi_trace.specs.declared.trace.TraceLine.{TraceLine}
-use Rattle.vi_trace.specs.Rules.{Kept, Known, nothing_known, Breaks, Goes, Judges, takes, pages_kept, down, up, ack, update, access, updated, invalidated, acknowledged, used, held, broken, goes}
+use Rattle.vi_trace.specs.Rules.{Known, nothing_known, Breaks, Goes, Judges, takes, pages_kept, down, up, ack, update, access, updated, invalidated, acknowledged, used, held, broken, goes}
 use Rattle.vi_trace.specs.Laws.{JudgedOnce}
-use Rattle.vi_trace.proofs.FrameLemmas.{SameUpdate, one_update, one_span, no_update}
+use Rattle.vi_trace.proofs.FrameLemmas.{one_update, one_span, no_update}
 
 one_rule : (known : Known) (e : Event) (r q : Rule) → Breaks known e r → Breaks known e q → r ≡ q
 one_rule known e r q (down bytes none) (down _ none') = refl

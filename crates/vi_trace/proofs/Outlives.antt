@@ -1,17 +1,16 @@
 -- Nothing outlives its Ack: no Update of the span's pages stands between Invalidate and Ack, so what a lawful cache
 -- has dropped by then it doesn't gain again.
-use Rattle.std.proofs.Common.{zero, suc, ◌≡◌, ◌≤◌, ◌<◌, ◌+◌, ◌-◌, ℕ, Bool, true, false, List, [], ◌∷◌, length, refl, ap, sym, ◌∙◌, subst, arith, inl, inr}
+use Rattle.std.proofs.Common.{zero, suc, ◌≡◌, ◌≤◌, ◌<◌, ◌+◌, ◌-◌, ℕ, Bool, false, List, [], ◌∷◌, length, subst, arith, inl, inr}
 use Rattle.std.proofs.lemmas.Bool.{cases_Bool, cases_lt, cases_eq}
 use Rattle.vi_bytes.specs.Spans.{Meets, page_span}
 use Rattle.vi_bytes.specs.declared.span.Span.{Span}
 use Rattle.vi_trace.specs.declared.finding.Finding.TheVariants.{Held}
-use Rattle.vi_trace.specs.declared.trace.Event.{Event}
 use Rattle.vi_trace.specs.declared.trace.TraceLine.{TraceLine}
 use Rattle.vi_trace.specs.Rules.{Known, nothing_known, Judges}
-use Rattle.vi_trace.specs.Lawful.{Updates, IsAck, At, UpdatesAt, AcksAt, Acknowledges, IsLawful, Counts}
+use Rattle.vi_trace.specs.Lawful.{IsAck, UpdatesAt, AcksAt, Acknowledges, IsLawful, Counts}
 use Rattle.vi_trace.specs.Laws.{NothingOutlivesItsAck}
 use Rattle.vi_trace.proofs.FrameLemmas.{no_ack_updates}
-use Rattle.vi_trace.proofs.Waiting.{Taken, taken_line, queue, Waits, Comes, waits_on, begins_to_wait, comes_on, no_update_of_open}
+use Rattle.vi_trace.proofs.Waiting.{taken_line, queue, Waits, Comes, waits_on, begins_to_wait, comes_on, no_update_of_open}
 
 -- while a span waits, no page that meets it is updated
 not_while_waiting : (u : ℕ) (ls : List TraceLine) (known : Known) (j page : ℕ) (span : Span) → Judges known ls Held → Waits known j ls span
@@ -59,11 +58,11 @@ stays_away lines holds page k (suc d) lawful away apart within =
 -- an Acknowledges from the beginning
 pub from_start : (lines : List TraceLine) (i j : ℕ) (span : Span) → Acknowledges lines i j span → Comes nothing_known i j lines span
 from_start lines i j span a = record {
-    invalidates = a.invalidates;
-    above = a.above;
-    invalidates_above = a.invalidates_above;
-    acks_above = subst (λ (n : ℕ). Counts IsAck j lines n) (omega arith) a.acks_above;
-  }
+  invalidates = a.invalidates;
+  above = a.above;
+  invalidates_above = a.invalidates_above;
+  acks_above = subst (λ (n : ℕ). Counts IsAck j lines n) (omega arith) a.acks_above;
+}
 
 no_update_behind : (lines : List TraceLine) (i j k m page : ℕ) (span : Span) → Judges nothing_known lines Held → Acknowledges lines i j span → i ≤ k → Meets (page_span page) span
     → ((u : ℕ) → j < u → u ≤ m → ¬ UpdatesAt lines u page) → (u : ℕ) → k < u → u ≤ m → ¬ UpdatesAt lines u page
@@ -71,9 +70,9 @@ no_update_behind lines i j k m page span holds a from share later u above below 
     λ updates. elim (cases_lt j u) [
       | inl behind ↦ later u behind below updates
       | inr upto ↦ elim (cases_eq u j) [
-          | inl same ↦ not_at_ack j lines page a.acks (subst (λ (n : ℕ). UpdatesAt lines n page) same updates)
-          | inr other ↦ not_between i lines nothing_known j u page span holds (from_start lines i j span a) (omega arith) (omega arith) updates share
-        ]
+        | inl same ↦ not_at_ack j lines page a.acks (subst (λ (n : ℕ). UpdatesAt lines n page) same updates)
+        | inr other ↦ not_between i lines nothing_known j u page span holds (from_start lines i j span a) (omega arith) (omega arith) updates share
+      ]
     ]
 
 pub nothing_outlives : NothingOutlivesItsAck
@@ -84,5 +83,5 @@ nothing_outlives lines holds judged lawful i j m page span a upto within share l
     let to : k ≤ j = dropped.2 in
     let number : k + (m - k) + 1 ≡ m + 1 = omega arith in
     subst (λ (n : ℕ). holds n page ≡ false) number
-        (stays_away lines holds page k (m - k) lawful (dropped.3 page share)
-            (λ u above below. no_update_behind lines i j k m page span judged a from share later u above (omega arith)) (omega arith))
+    (stays_away lines holds page k (m - k) lawful (dropped.3 page share)
+    (λ u above below. no_update_behind lines i j k m page span judged a from share later u above (omega arith)) (omega arith))

@@ -1,7 +1,7 @@
 -- A text line by line: what each line says goes in front of what the rest says.
-use Rattle.std.proofs.Common.{◌≡◌, ◌≤◌, ◌+◌, ℕ, List, [], ◌∷◌, ◌++◌, length, Result, Ok, Err, refl, ap, sym, ◌∙◌, arith, inl, inr, append_assoc, append-nil}
+use Rattle.std.proofs.Common.{◌≡◌, ◌≤◌, ◌+◌, ℕ, List, [], ◌∷◌, length, Result, Ok, Err, refl, ap, sym, ◌∙◌, arith, inl, inr, append_assoc, append-nil}
 use Rattle.vi_words.specs.Words.{in_front, lines_of_text}
-use Rattle.std.specs.Prelude.{◌==◌, true, false, if◌then◌else◌}
+use Rattle.std.specs.Prelude.{◌==◌}
 use Rattle.std.proofs.lemmas.Bool.{cases_Bool}
 use Rattle.vi_trace.specs.declared.reading.TraceFault.{TraceFault}
 use Rattle.vi_trace.specs.declared.reading.TraceFault.TheVariants.{Bad, OutOfMemory}

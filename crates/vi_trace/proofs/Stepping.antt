@@ -1,10 +1,9 @@
 -- An event that the checker takes or refuses, against what is known.
-use Rattle.std.proofs.Common.{◌≡◌, ◌≢◌, ◌/◌, ℕ, true, false, not, List, [], ◌∷◌, ◌++◌, None, refl, ap, sym, ◌∙◌, subst, inl, inr, length, drop, suc, arith}
+use Rattle.std.proofs.Common.{◌≡◌, ◌/◌, ℕ, true, false, not, List, [], ◌∷◌, ◌++◌, None, refl, ap, sym, ◌∙◌, subst, inl, inr, length, drop, suc, arith}
 use Rattle.std.specs.Prelude.{filter}
 use Rattle.std.specs.List.{list_any}
 use Rattle.std.specs.BTreeMap.{get}
 use Rattle.std.specs.Ordering.{nat_cmp}
-use Rattle.std.specs.Option.{unwrap_or}
 use Rattle.std.proofs.lemmas.Bool.{cases_Bool}
 use Rattle.vi_bytes.specs.Spans.{meets, page_span}
 use Rattle.vi_bytes.specs.declared.span.Span.{Span}
@@ -37,17 +36,19 @@ over_open known bytes page count target perm state holds reads met =
 pub moves_update : (known : Known) (bytes : List ℕ) (page count target perm : ℕ) (old new : State) → Holds old known → ReadAs bytes (frame.Update page count target perm)
     → list_any (update_meets page count) old.waiting.items ≡ false → new.waiting ≡ old.waiting
     → ((kept : List Kept) → IsCache old.cache kept → IsCache new.cache (pages_kept page count perm ++ kept)) → Moves known (Down bytes) new
-moves_update known bytes page count target perm old new holds reads clear same keeps =
-    (record { waiting = known.waiting; cache = pages_kept page count perm ++ known.cache },
-     updated bytes page count target perm reads (ap (list_any (update_meets page count)) (sym holds.waiting) ∙ clear),
-     record { waiting = ap (λ w. w.items) same ∙ holds.waiting; cache = keeps known.cache holds.cache })
+moves_update known bytes page count target perm old new holds reads clear same keeps = (
+  record { waiting = known.waiting; cache = pages_kept page count perm ++ known.cache },
+  updated bytes page count target perm reads (ap (list_any (update_meets page count)) (sym holds.waiting) ∙ clear),
+  record { waiting = ap (λ w. w.items) same ∙ holds.waiting; cache = keeps known.cache holds.cache },
+)
 
 pub moves_invalidate : (known : Known) (bytes : List ℕ) (span : Span) (old new : State) → Holds old known → ReadAs bytes (frame.Invalidate span)
     → new.waiting.items ≡ old.waiting.items ++ span ∷ [] → new.cache ≡ old.cache → Moves known (Down bytes) new
-moves_invalidate known bytes span old new holds reads pushed same =
-    (record { waiting = known.waiting ++ span ∷ []; cache = known.cache },
-     invalidated bytes span reads,
-     record { waiting = pushed ∙ ap (λ w. w ++ span ∷ []) holds.waiting; cache = rw same holds.cache })
+moves_invalidate known bytes span old new holds reads pushed same = (
+  record { waiting = known.waiting ++ span ∷ []; cache = known.cache },
+  invalidated bytes span reads,
+  record { waiting = pushed ∙ ap (λ w. w ++ span ∷ []) holds.waiting; cache = rw same holds.cache },
+)
 
 cache_left : (span : Span) (old new : State) (kept : List Kept) → IsCache old.cache kept
     → ((page : ℕ) → meets (page_span page) span ≡ true → get nat_cmp new.cache page ≡ None)
@@ -64,10 +65,11 @@ pub moves_ack : (known : Known) (bytes : List ℕ) (span : Span) (old new : Stat
     → ((page : ℕ) → meets (page_span page) span ≡ true → get nat_cmp new.cache page ≡ None)
     → ((page : ℕ) → meets (page_span page) span ≡ false → get nat_cmp new.cache page ≡ get nat_cmp old.cache page)
     → Moves known (Up bytes) new
-moves_ack known bytes span old new holds reads popped gone left =
-    (record { waiting = new.waiting.items; cache = filter (λ k. not (takes span k)) known.cache },
-     acknowledged bytes span new.waiting.items reads (sym holds.waiting ∙ popped),
-     record { waiting = refl; cache = cache_left span old new known.cache holds.cache gone left })
+moves_ack known bytes span old new holds reads popped gone left = (
+  record { waiting = new.waiting.items; cache = filter (λ k. not (takes span k)) known.cache },
+  acknowledged bytes span new.waiting.items reads (sym holds.waiting ∙ popped),
+  record { waiting = refl; cache = cache_left span old new known.cache holds.cache gone left },
+)
 
 pub no_ack : (known : Known) (bytes : List ℕ) → ¬ ReadAs bytes frame.Ack → Breaks known (Up bytes) rule.Frame
 no_ack known bytes other = up bytes (λ f reads is. other (subst (λ (g : Frame). ReadAs bytes g) is reads))

@@ -1,15 +1,14 @@
 -- The open Invalidates line by line: which Ack takes which span.
-use Rattle.std.proofs.Common.{zero, suc, ◌≡◌, ◌≤◌, ◌<◌, ◌+◌, ◌*◌, ℕ, Bool, true, false, List, [], ◌∷◌, ◌++◌, length, refl, ap, sym, ◌∙◌, subst, arith, append_assoc, length-append}
+use Rattle.std.proofs.Common.{zero, suc, ◌≡◌, ◌≤◌, ◌<◌, ◌+◌, ℕ, true, false, List, [], ◌∷◌, ◌++◌, length, refl, ap, sym, ◌∙◌, subst, arith, append_assoc, length-append}
 use Rattle.std.specs.List.{list_any}
 use Rattle.vi_bytes.specs.Spans.{Meets, page_span}
 use Rattle.vi_bytes.specs.declared.span.Span.{Span}
 use Rattle.vi_trace.specs.declared.finding.Finding.TheVariants.{Held}
 use Rattle.vi_trace.specs.declared.trace.Event.{Event}
-use Rattle.vi_trace.specs.declared.trace.Event.TheVariants.{Down, Up, Access}
 use Rattle.vi_trace.specs.declared.trace.TraceLine.{TraceLine}
 use Rattle.vi_trace.specs.Rules.{Known, Goes, Judges, update_meets, updated, invalidated, acknowledged, used, goes}
-use Rattle.vi_trace.specs.Lawful.{Updates, Gives, Invalidates, IsInvalidate, IsAck, Counts, none, counted, passed, At, InvalidatesAt}
-use Rattle.vi_trace.proofs.FrameLemmas.{SameUpdate, one_update, no_update, same_invalidate}
+use Rattle.vi_trace.specs.Lawful.{Updates, Invalidates, IsInvalidate, IsAck, Counts, none, counted, passed, InvalidatesAt}
+use Rattle.vi_trace.proofs.FrameLemmas.{one_update, no_update, same_invalidate}
 use Rattle.vi_trace.proofs.Numbers.{update_meets-from_page, any_within}
 
 -- what an event does to the spans of the open Invalidates

@@ -27,5 +27,5 @@ NothingOutlivesItsAck = (lines : List TraceLine) (holds : ℕ → ℕ → Bool) 
 abbrev pub UsesAreGranted : Type 0
 UsesAreGranted = (lines : List TraceLine) → Judges nothing_known lines Held → (m address : ℕ) (need : Need) → AccessesAt lines m address need
     → (u : ℕ) × (u < m) × GrantsAt lines u (address / PAGE) need
-      × ((v : ℕ) → u < v → v < m → ¬ UpdatesAt lines v (address / PAGE))
-      × ((i j : ℕ) (span : Span) → Acknowledges lines i j span → u < j → j < m → ¬ Meets (page_span (address / PAGE)) span)
+    × ((v : ℕ) → u < v → v < m → ¬ UpdatesAt lines v (address / PAGE))
+    × ((i j : ℕ) (span : Span) → Acknowledges lines i j span → u < j → j < m → ¬ Meets (page_span (address / PAGE)) span)

@@ -76,12 +76,7 @@ pub fn parse(alloc: Global, bytes: &[u8]) -> Result<Trace, TraceFault>
 
 /// Adds what the line of this number says, if it says something.
 #[tactic(auto, unfolding(crate::specs::Traces::line_at))]
-fn add(
-    alloc: Global,
-    said: &mut Vec<TraceLine>,
-    number: u32,
-    line: &[u8],
-) -> Result<(), TraceFault>
+fn add(alloc: Global, said: &mut Vec<TraceLine>, number: u32, line: &[u8]) -> Result<(), TraceFault>
     ensures { MatchResult result (λ _. followed (Ok said.old.items) (line_at number line.now) ≡ Ok said.new.items) (λ e. Faults e (line_at number line.now)) }
 {
     let words = Words::of(line);

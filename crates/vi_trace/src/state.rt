@@ -63,7 +63,10 @@ impl State {
     {
         match frame {
             Frame::Update {
-                page, count, perm, ..
+                page,
+                count,
+                perm,
+                ..
             } => {
                 if is_open(&self.waiting, page, count) {
                     return Ok(Some(Rule::Update));
@@ -126,5 +129,7 @@ fn is_open(waiting: &VecDeque<Span>, page: u64, count: u32) -> bool
 {
     let first = page * PAGE;
     let last = (page + u64::from(count - 1)) * PAGE + (PAGE - 1);
-    waiting.iter().any(|span| first <= span.last && span.first <= last)
+    waiting
+        .iter()
+        .any(|span| first <= span.last && span.first <= last)
 }

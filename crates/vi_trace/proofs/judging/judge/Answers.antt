@@ -1,4 +1,4 @@
-use Rattle.std.proofs.Common.{List, sym, subst}
+use Rattle.std.proofs.Common.{List, subst}
 use Rattle.vi_trace.specs.declared.finding.Finding.TheVariants.{Held, Broken}
 use Rattle.vi_trace.specs.declared.trace.TraceLine.{TraceLine}
 use Rattle.vi_trace.specs.Rules.{nothing_known, Judges}

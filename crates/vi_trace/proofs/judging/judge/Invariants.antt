@@ -1,4 +1,4 @@
-use Rattle.std.proofs.Common.{ℕ, drop}
+use Rattle.std.proofs.Common.{drop}
 use Rattle.vi_trace.specs.declared.finding.Finding.{Finding}
 use Rattle.vi_trace.specs.Rules.{Known, nothing_known, Judges}
 use Rattle.vi_trace.specs.Steps.{Holds}

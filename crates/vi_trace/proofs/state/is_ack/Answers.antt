@@ -1,4 +1,4 @@
-use Rattle.std.proofs.Common.{◌≡◌, Ok, ap, refl}
+use Rattle.std.proofs.Common.{Ok, ap, refl}
 use Rattle.std.proofs.lemmas.Bool.{false≢true}
 use Rattle.vi_iotlb.specs.declared.frame.Frame.TheVariants.{Ack}
 use Rattle.vi_trace.proofs.state.is_ack.Goals as goal

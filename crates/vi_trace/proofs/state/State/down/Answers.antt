@@ -1,4 +1,3 @@
-use Rattle.std.proofs.Common.{◌≡◌, Err}
 use Rattle.vi_trace.specs.Rules.{down}
 use Rattle.vi_trace.proofs.state.State.down.Goals as goal
 
