@@ -13,3 +13,5 @@ mod iotlb;
 mod prop;
 #[cfg(test)]
 mod req;
+#[cfg(test)]
+mod trace;

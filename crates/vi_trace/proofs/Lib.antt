@@ -1,0 +1,9 @@
+pub mod Numbers
+pub mod FrameLemmas
+pub mod Once
+pub mod Waiting
+pub mod Outlives
+pub mod Granted
+pub mod Stepping
+pub mod ReadingLemmas
+pub mod JudgingLemmas
