@@ -51,8 +51,8 @@ record Lasts (known : Known) (e : Event) (page : ℕ) (need : Need) : Type 0 whe
   pub not_updated : ¬ Updates page e
   pub not_taken : (first : Span) (spans : List Span) → IsAck e → known.waiting ≡ first ∷ spans → ¬ Meets (page_span page) first
 
-abbrev Comes_from : Known → Event → ℕ → Need → Type 0
-Comes_from known e page need = Permits page need e ⊎ Lasts known e page need
+abbrev ComesFrom : Known → Event → ℕ → Need → Type 0
+ComesFrom known e page need = Permits page need e ⊎ Lasts known e page need
 
 beside_update : (known : Known) (bytes : List ℕ) (page first count target perm : ℕ) (need : Need) → ReadAs bytes (frame.Update first count target perm) → (page < first) ⊎ (first + count ≤ page)
     → allows need (perm_of page (pages_kept first count perm ++ known.cache)) ≡ true → Lasts known (Down bytes) page need
@@ -70,7 +70,7 @@ beside_update known bytes page first count target perm need reads apart allowed 
 }
 
 behind_update : (known : Known) (bytes : List ℕ) (page first count target perm : ℕ) (need : Need) → ReadAs bytes (frame.Update first count target perm)
-    → allows need (perm_of page (pages_kept first count perm ++ known.cache)) ≡ true → Comes_from known (Down bytes) page need
+    → allows need (perm_of page (pages_kept first count perm ++ known.cache)) ≡ true → ComesFrom known (Down bytes) page need
 behind_update known bytes page first count target perm need reads allowed =
     elim (cases_lt page first) [
       | inl low ↦ inr (beside_update known bytes page first count target perm need reads (inl low) allowed)
@@ -99,7 +99,7 @@ behind_ack known bytes page need span spans begins allowed =
       }
     ]
 
-comes_from : (known more : Known) (e : Event) (page : ℕ) (need : Need) → Goes known e more → allows need (perm_of page more.cache) ≡ true → Comes_from known e page need
+comes_from : (known more : Known) (e : Event) (page : ℕ) (need : Need) → Goes known e more → allows need (perm_of page more.cache) ≡ true → ComesFrom known e page need
 comes_from known more e page need (updated bytes first count target perm reads clear) allowed = behind_update known bytes page first count target perm need reads allowed
 comes_from known more e page need (invalidated bytes span reads) allowed = inr (record {
   allowed = allowed;

@@ -8,9 +8,9 @@
 //! Update of the page, and each use was permitted by an Update that no Ack had taken back (`laws`).
 //!
 //! Limits: a text has fewer than 2^32 - 1 bytes. The frames are those of `vi_iotlb`, with one form of flags each and
-//! Updates within a block of 16 pages; the log of another implementation is rewritten into these first. An Ack and an
-//! Update cost the pages that they name, and a use the logarithm of the pages kept; an Update is also compared with
-//! each open Invalidate.
+//! Updates within a block of 16 pages; the log of another implementation is rewritten into these first. An Ack costs the
+//! kept pages that it takes, whatever its span has else and however many are kept; an Update is compared with each open
+//! Invalidate.
 #![tactic(auto)]
 
 mod cache;
