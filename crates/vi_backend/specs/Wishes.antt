@@ -9,7 +9,7 @@ use Rattle.vi_lines.specs.declared.line.Line.{Line}
 use Rattle.vi_lines.specs.declared.line.Await.{Await}
 use Rattle.vi_lines.specs.Calls.{call_in, awaits_in}
 use Rattle.vi_model.specs.Lanes.{Miss}
-use Rattle.vi_model.specs.Backs.{Seat, Access, access_in, is_empty, current_wish, target_of}
+use Rattle.vi_model.specs.Backs.{Access, access_in, is_empty, current_wish, target_of}
 use Rattle.vi_model.specs.Backs as model
 use Rattle.vi_backend.specs.declared.wish.Wish.{Wish}
 use Rattle.vi_backend.specs.declared.wish.Wish.TheVariants as shows

@@ -15,7 +15,7 @@ use Rattle.vi_model.specs.Cuts.{cut, open_around, open_run}
 use Rattle.vi_model.specs.Grants.{piece}
 use Rattle.vi_model.specs.Removals.{Removal, closed}
 use Rattle.vi_model.specs.Whole.{IsWholeDev}
-use Rattle.vi_sound.proofs.Runs.{IsRun, run_is, cut_is}
+use Rattle.vi_sound.proofs.Values.Runs.{IsRun, run_is, cut_is}
 use Rattle.vi_control.specs.Granting.{IsLowestOpen, IsHighestOpen, IsGrantable}
 
 -- ---- tests over the numbers from a on

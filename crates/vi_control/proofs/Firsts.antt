@@ -9,12 +9,13 @@ use Rattle.vi_model.specs.Control.{Queued, Setting, Port, Control, driver_count,
 use Rattle.vi_model.specs.Drivers.{left, Chain}
 use Rattle.vi_model.specs.Lanes.{Lanes}
 use Rattle.vi_model.specs.Places.{place_count}
-use Rattle.vi_model.specs.Playable.{HasFields, IsPlayable}
+use Rattle.vi_lines.specs.Fields.{HasFields}
+use Rattle.vi_model.specs.Playable.{IsPlayable}
 use Rattle.vi_model.specs.Rooms.{is_map}
 use Rattle.vi_model.specs.Worlds.{opening, opening_control}
 use Rattle.vi_model.specs.declared.task.Task.TheVariants.{Reads}
 use Rattle.vi_sound.proofs.Laws.{opening_is_sound}
-use Rattle.vi_sound.proofs.Opening.{same_all}
+use Rattle.vi_sound.proofs.Moves.Opening.{same_all}
 use Rattle.vi_control.specs.Asked.{transfer_at}
 use Rattle.vi_control.specs.Calls.{MayAsk}
 use Rattle.vi_control.specs.Plan.{Plan, plan_of}

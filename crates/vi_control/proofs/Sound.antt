@@ -4,7 +4,7 @@ use Rattle.vi_model.specs.Places.{place_count}
 use Rattle.vi_model.specs.Playable.{IsPlayable}
 use Rattle.vi_model.specs.Sound.{IsSound}
 use Rattle.vi_model.specs.Worlds.{World}
-use Rattle.vi_sound.proofs.Room.{requests_fit, settings_fit, misses_fit, open_calls_fit, acks_are_awaited, mappings_are_whole}
+use Rattle.vi_sound.proofs.Space.Room.{requests_fit, settings_fit, misses_fit, open_calls_fit, acks_are_awaited, mappings_are_whole}
 use Rattle.vi_control.specs.Rooms.{HasTurnRoom}
 
 pub sound_room : (s : ScriptValue) (w : World) → IsPlayable s → IsSound s w → HasTurnRoom (place_count s) w.control

@@ -11,8 +11,8 @@ use Rattle.vi_model.specs.Places.{ids_of, place_in, place_count, back_at}
 use Rattle.vi_model.specs.Playable.{IsPlayable}
 use Rattle.vi_model.specs.Sound.{IsSound, SoundParts}
 use Rattle.vi_model.specs.Worlds.{World, seat_of}
-use Rattle.vi_sound.proofs.Ids.{place_of_id}
-use Rattle.vi_sound.proofs.Room.{asks_fit, acks_fit}
+use Rattle.vi_sound.proofs.Values.Ids.{place_of_id}
+use Rattle.vi_sound.proofs.Space.Room.{asks_fit, acks_fit}
 use Rattle.vi_backend.specs.Own.{Own, IsOwn, IsBackOf}
 use Rattle.vi_backend.specs.Wishes.{own_wish, own_awaits}
 use Rattle.vi_backend.proofs.Agreeing.{wishes_agree}

@@ -31,12 +31,12 @@ use Rattle.vi_model.specs.Places.{ids_of}
 use Rattle.vi_model.specs.Playable.{IsPlayable}
 use Rattle.vi_model.specs.Sound.{IsSound, SoundParts}
 use Rattle.vi_model.specs.Worlds.{World, stand_of}
-use Rattle.vi_sound.proofs.Batches.{batch_all}
-use Rattle.vi_sound.proofs.Bounds.{no_line, one_batch, open_sum, zero_or, drivers_sum}
-use Rattle.vi_sound.proofs.Drives.{line_below}
-use Rattle.vi_sound.proofs.Parcels.{all_from_test, line_all, driver_does_it}
-use Rattle.vi_sound.proofs.Room.{answers_once, submits_fit}
-use Rattle.vi_sound.proofs.Sums.{sum_to, sum_window}
+use Rattle.vi_sound.proofs.Values.Batches.{batch_all}
+use Rattle.vi_sound.proofs.Space.Bounds.{no_line, one_batch, open_sum, zero_or, drivers_sum}
+use Rattle.vi_sound.proofs.Moves.Drives.{line_below}
+use Rattle.vi_sound.proofs.Values.Parcels.{all_from_test, line_all, driver_does_it}
+use Rattle.vi_sound.proofs.Space.Room.{answers_once, submits_fit}
+use Rattle.vi_sound.proofs.Values.Sums.{sum_to, sum_window}
 use Rattle.vi_driver.specs.Drivers.{own_driver, continues_batch, next_line}
 use Rattle.vi_driver.proofs.Batches.{one_batch-own, line_of-own}
 use Rattle.vi_removals.specs.Takings.{has_id}

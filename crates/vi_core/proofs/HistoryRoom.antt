@@ -46,15 +46,15 @@ use Rattle.vi_model.specs.Rooms.{is_back}
 use Rattle.vi_model.specs.Rounds.{calls_in, calls_of}
 use Rattle.vi_model.specs.Worlds.{World}
 use Rattle.vi_model.specs.Sound.{SoundParts, IsSound}
-use Rattle.vi_sound.proofs.Parcels.{line_caller}
+use Rattle.vi_sound.proofs.Values.Parcels.{line_caller}
 use Rattle.vi_core.proofs.KnownCalls.{call_line, driver_part, back_part}
 use Rattle.vi_core.specs.HistoryRoom.{request_answer_bytes, answer_bytes, bytes_of, HistoryHasRoom}
-use Rattle.vi_sound.proofs.Sums.{sum_to, sum_le}
-use Rattle.vi_sound.proofs.Totals.{total_le, total_one, total_rise}
-use Rattle.vi_sound.proofs.Known.{known_back, known_driver, known_line, place_there}
-use Rattle.vi_sound.proofs.Ids.{back_other}
-use Rattle.vi_sound.proofs.Falls.{line_get}
-use Rattle.vi_sound.proofs.Histories.{due_own, due_other, entered_more}
+use Rattle.vi_sound.proofs.Values.Sums.{sum_to, sum_le}
+use Rattle.vi_sound.proofs.Values.Totals.{total_le, total_one, total_rise}
+use Rattle.vi_sound.proofs.Values.Known.{known_back, known_driver, known_line, place_there}
+use Rattle.vi_sound.proofs.Values.Ids.{back_other}
+use Rattle.vi_sound.proofs.Falling.Falls.{line_get}
+use Rattle.vi_sound.proofs.Values.Histories.{due_own, due_other, entered_more}
 
 -- ---- weights: of a call by its caller, line and part, and of a line
 

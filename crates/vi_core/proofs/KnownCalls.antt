@@ -8,7 +8,7 @@ use Rattle.vi_history.specs.declared.call.Caller.TheVariants.{Driver}
 use Rattle.vi_lines.specs.declared.line.Line.{Line}
 use Rattle.vi_lines.specs.Value.{ScriptValue}
 use Rattle.vi_lines.specs.Calls.{lines_of, line_of, parts_of, driver_call, back_call, call_of}
-use Rattle.vi_sound.proofs.Known.{known_line}
+use Rattle.vi_sound.proofs.Values.Known.{known_line}
 
 line_there : (s : ScriptValue) (c : Caller) (line : ℕ) (l : Line) → line_of s c line ≡ Some l → (1 ≤ line) × (line ≤ length (lines_of s c))
 line_there s c zero l e = absurd cc

@@ -25,7 +25,7 @@ use Rattle.vi_model.specs.Turns.{ControlTurn, Turn, driver_idle, driven, served,
 use Rattle.vi_model.specs.Rounds.{calls_of}
 use Rattle.vi_model.specs.Sound.{IsSound}
 use Rattle.vi_sound.proofs.Laws.{turns_keep_sound}
-use Rattle.vi_sound.proofs.Turns.{left_stays}
+use Rattle.vi_sound.proofs.Moves.Turns.{left_stays}
 use Rattle.vi_driver.specs.Drivers.{OwnDriver, own_driver}
 use Rattle.vi_backend.specs.Own.{Own}
 use Rattle.vi_control.specs.Value.{ControlValue, entry_with}

@@ -17,7 +17,7 @@ use Rattle.vi_model.specs.Actors.{Actor, seat_in, back_actor}
 use Rattle.vi_model.specs.Worlds.{World, seat_of, actor_of}
 use Rattle.vi_model.specs.Turns as model
 use Rattle.vi_model.specs.Turns.{ControlTurn, AccessTurn, Turn, exchanged, wished, wished_page, control_turn, accessed_page, access_turn, made_entries, left_by, left_by_access, under_control, turn_at, turn}
-use Rattle.vi_sound.proofs.Owns.{places_have_ids}
+use Rattle.vi_sound.proofs.Values.Owns.{places_have_ids}
 use Rattle.vi_backend.specs.declared.wish.Done.{Done}
 use Rattle.vi_backend.specs.Own.{Own, IsOwn, IsBackOf}
 use Rattle.vi_backend.specs.Wishes.{own_wish}

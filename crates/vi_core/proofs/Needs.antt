@@ -24,7 +24,7 @@ use Rattle.vi_core.specs.BackTurns.{HasConverseRoom}
 use Rattle.vi_core.specs.Parts.{Parts, world_of, no_driver, no_back, IsDriverOf, IsBackAt, IsKept}
 use Rattle.vi_core.proofs.DriveRoom.{drive_room}
 use Rattle.vi_core.proofs.ConverseRoom.{converse_room}
-use Rattle.vi_sound.proofs.PageRoom.{page_room}
+use Rattle.vi_sound.proofs.Space.PageRoom.{page_room}
 use Rattle.vi_core.proofs.Moving.{many_drivers, many_backs, driver_moves}
 use Rattle.vi_core.proofs.MovingBacks.{seat_is, page_wished}
 

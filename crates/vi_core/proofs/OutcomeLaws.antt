@@ -55,11 +55,11 @@ use Rattle.vi_model.specs.Whole.{IsWholeDev}
 use Rattle.vi_model.specs.Playable.{IsPlayable}
 use Rattle.vi_model.specs.Worlds.{World, opening}
 use Rattle.vi_model.specs.declared.task.Task.TheVariants.{Reads, Sets}
-use Rattle.vi_sound.proofs.Aligned.{leased, found_leased}
-use Rattle.vi_sound.proofs.Delivered.{records_are_shown_well}
-use Rattle.vi_sound.proofs.Known.{known_line, known_driver, known_part, line_is}
-use Rattle.vi_sound.proofs.Opening.{opening_sound}
-use Rattle.vi_sound.proofs.Wholes.{commit_whole}
+use Rattle.vi_sound.proofs.Values.Aligned.{leased, found_leased}
+use Rattle.vi_sound.proofs.Moves.Delivered.{records_are_shown_well}
+use Rattle.vi_sound.proofs.Values.Known.{known_line, known_driver, known_part, line_is}
+use Rattle.vi_sound.proofs.Moves.Opening.{opening_sound}
+use Rattle.vi_sound.proofs.Moves.Wholes.{commit_whole}
 use Rattle.vi_core.specs.Outcomes.{fault_numbers, named_by, outcome_of, OutcomeIsMade, OutcomeHasRecords}
 use Rattle.vi_core.proofs.KnownCalls.{call_line, driver_part, back_part}
 use Rattle.vi_core.proofs.HistoryRoom.{entries_few, properties_length}

@@ -6,9 +6,9 @@ use Rattle.vi_model.specs.Starts.{awaited_by, start, answered, begun, removal_of
 use Rattle.vi_model.specs.Rounds.{is_finished}
 use Rattle.vi_model.specs.Worlds.{World}
 use Rattle.vi_sound.proofs.Laws.{sound_is_legal}
-use Rattle.vi_sound.proofs.Ended.{finished_is_ordered}
-use Rattle.vi_sound.proofs.Tested.{finished_has_finished}
-use Rattle.vi_sound.proofs.Taken.{finished_is_taken, started_is_taken}
+use Rattle.vi_sound.proofs.Falling.Ended.{finished_is_ordered}
+use Rattle.vi_sound.proofs.Falling.Tested.{finished_has_finished}
+use Rattle.vi_sound.proofs.Moves.Taken.{finished_is_taken, started_is_taken}
 use Rattle.vi_core.specs.Parts.{Parts, world_of, running, IsKept}
 use Rattle.vi_core.specs.Well.{IsWell, IsAnsweredAtOnce}
 

@@ -1,5 +1,6 @@
 pub mod Device
 pub mod Requests
+pub mod Fields
 pub mod Statuses
 pub mod Effects
 pub mod Translation

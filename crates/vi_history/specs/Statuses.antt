@@ -2,6 +2,7 @@
 use Rattle.std.specs.Prelude.{◌==◌, ℕ, ◌+◌, ◌-◌, ◌%◌, ◌^◌, Bool, true, false, not, ◌&&◌, nat_lt, nat_le, if◌then◌else◌, List, Option, Some, None}
 use Rattle.std.specs.List.{list_any}
 use Rattle.vi_bytes.specs.Spans.{meets, covers}
+use Rattle.vi_bytes.specs.Mappings.{is_cut}
 use Rattle.vi_bytes.specs.declared.span.Span.{Span}
 use Rattle.vi_bytes.specs.declared.lease.Mapping.{Mapping}
 use Rattle.vi_bytes.specs.declared.region.Region.{Region}
@@ -29,7 +30,7 @@ any_mapping_meets_region regions mappings = list_any (λ m. any_region_meets m.s
 
 -- a mapping shares an address with the span and doesn't lie wholly in it
 abbrev pub any_mapping_is_cut : Span → List Mapping → Bool
-any_mapping_is_cut span mappings = list_any (λ m. meets m.span span && not (covers span m.span)) mappings
+any_mapping_is_cut span mappings = list_any (is_cut span) mappings
 
 -- a region of an endpoint of the domain shares an address with the span
 abbrev pub region_meets_in : Dev → ℕ → Span → Bool

@@ -6,7 +6,7 @@ use Rattle.vi_lines.specs.declared.line.Who.{Who}
 use Rattle.vi_lines.specs.declared.line.Who.TheVariants as who
 use Rattle.vi_lines.specs.Value.{ScriptValue}
 use Rattle.vi_lines.specs.Valid.{IsValid}
-use Rattle.vi_lines.specs.Fields as fields
+use Rattle.vi_lines.specs.Fields.{HasFields}
 use Rattle.vi_history.specs.declared.call.Caller.TheVariants.{Driver}
 use Rattle.vi_lines.specs.Calls.{lines_of}
 use Rattle.vi_lines.specs.Ordered.{IsOrdered}
@@ -22,7 +22,7 @@ use Rattle.vi_model.specs.Sound.{IsSound}
 
 -- a valid script whose requests fit their fields can be played
 abbrev pub ValidIsPlayable : Type 0
-ValidIsPlayable = (s : ScriptValue) → IsValid s → fields.HasFields s → IsPlayable s
+ValidIsPlayable = (s : ScriptValue) → IsValid s → HasFields s → IsPlayable s
 
 -- the world in which nothing has happened is sound
 abbrev pub OpeningIsSound : Type 0

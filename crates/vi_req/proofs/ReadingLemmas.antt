@@ -10,7 +10,8 @@ use Rattle.vi_history.specs.declared.reading.Reading.TheVariants.{Silent, Malfor
 use Rattle.vi_history.specs.declared.request.Request.{Request}
 use Rattle.vi_req.specs.declared.refusal.ReqFault.{ReqFault}
 use Rattle.vi_req.specs.declared.refusal.ReqFault.TheVariants.{NoHead, UnknownType, Size, Reserved}
-use Rattle.vi_req.specs.Requests.{type_of, IsRequest, FieldsFit}
+use Rattle.vi_history.specs.Fields.{FieldsFit}
+use Rattle.vi_req.specs.Requests.{type_of, IsRequest}
 use Rattle.vi_req.specs.Refusals.{RefusedAs, refused_reading, reading_as}
 use Rattle.vi_req.proofs.Zeros.{IsZero, is_zero, list_all-true, list_all-false, All-from_list_all}
 use Rattle.vi_req.proofs.RequestLemmas.{IsRequest-request_bytes, type_of-low, type_of-high, type_of-request_in, ShowsFields-request_in, request_in-IsRequest, readable_size-above}

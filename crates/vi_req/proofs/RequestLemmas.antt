@@ -11,7 +11,8 @@ use Rattle.vi_history.specs.declared.request.Request.{Request}
 use Rattle.vi_history.specs.declared.request.Request.TheVariants.{Attach, Detach, Map, Unmap, Probe}
 use Rattle.vi_req.specs.declared.refusal.ReqFault.{ReqFault}
 use Rattle.vi_req.specs.declared.refusal.ReqFault.TheVariants.{NoHead, UnknownType, Size, Reserved}
-use Rattle.vi_req.specs.Requests.{type_of, ShowsFields, IsRequest, FieldsFit}
+use Rattle.vi_history.specs.Fields.{FieldsFit}
+use Rattle.vi_req.specs.Requests.{type_of, ShowsFields, IsRequest}
 use Rattle.vi_req.specs.Refusals.{RefusedAs}
 use Rattle.vi_req.proofs.Zeros.{IsZero, IsNotZero, not-All-Any}
 

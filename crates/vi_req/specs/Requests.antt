@@ -1,5 +1,5 @@
 -- What the device-readable part of a request reads as (Virtio 1.2, 5.13.6).
-use Rattle.std.specs.Prelude.{◌≡◌, ◌<◌, ◌^◌, ℕ, List, length, All}
+use Rattle.std.specs.Prelude.{◌≡◌, ℕ, List, length, All}
 use Rattle.vi_bytes.specs.Fields.{field, byte_at}
 use Rattle.vi_history.specs.Requests.{readable_size, reserved_bytes}
 use Rattle.vi_history.specs.declared.request.TheConstants.{ATTACH, DETACH, MAP, UNMAP, PROBE}
@@ -58,11 +58,3 @@ pub record IsRequest (request : Request) (bytes : List ℕ) : Type 0 where
   pub size : length bytes ≡ readable_size (type_of request)
   pub fields : ShowsFields request bytes
   pub reserved : All (λ b. b ≡ 0) (reserved_bytes (type_of request) bytes)
-
--- each field of a request fits its 4 or 8 bytes
-abbrev pub FieldsFit : Request → Type 0
-FieldsFit (Attach domain endpoint flags) = (domain < 2 ^ 32) × (endpoint < 2 ^ 32) × (flags < 2 ^ 32)
-FieldsFit (Detach domain endpoint) = (domain < 2 ^ 32) × (endpoint < 2 ^ 32)
-FieldsFit (Map domain first last target flags) = (domain < 2 ^ 32) × (first < 2 ^ 64) × (last < 2 ^ 64) × (target < 2 ^ 64) × (flags < 2 ^ 32)
-FieldsFit (Unmap domain first last) = (domain < 2 ^ 32) × (first < 2 ^ 64) × (last < 2 ^ 64)
-FieldsFit (Probe endpoint) = endpoint < 2 ^ 32

@@ -1,7 +1,8 @@
 //! Requests to bytes.
 ghost use Rattle.std.specs.Prelude.{◌≡◌, IfOk};
+ghost use Rattle.vi_history.specs.Fields.{FieldsFit};
 ghost use Rattle.vi_history.specs.Requests.{request_bytes};
-ghost use Rattle.vi_req.specs.Requests.{IsRequest, FieldsFit};
+ghost use Rattle.vi_req.specs.Requests.{IsRequest};
 
 use byteorder::{ByteOrder, LittleEndian};
 use std::alloc::{AllocError, Global};

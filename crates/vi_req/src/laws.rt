@@ -1,10 +1,11 @@
 //! What holds of requests and their bytes, each as the contract of a function that does nothing.
 ghost use Rattle.std.specs.Prelude.{◌≡◌, ◌≤◌, ◌↔◌, ℕ, List};
 ghost use Rattle.vi_bytes.specs.Fields.{byte_at};
+ghost use Rattle.vi_history.specs.Fields.{FieldsFit};
 ghost use Rattle.vi_history.specs.Requests.{request_bytes, reading, writable_size};
 ghost use Rattle.vi_history.specs.declared.reading.Reading.TheVariants.{Asks};
 ghost use Rattle.vi_history.specs.declared.request.Request.{Request};
-ghost use Rattle.vi_req.specs.Requests.{type_of, IsRequest, FieldsFit};
+ghost use Rattle.vi_req.specs.Requests.{type_of, IsRequest};
 ghost use Rattle.vi_req.specs.Refusals.{RefusedAs, refused_reading};
 ghost use Rattle.vi_req.specs.declared.refusal.ReqFault.{ReqFault};
 

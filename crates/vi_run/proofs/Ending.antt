@@ -25,7 +25,7 @@ use Rattle.vi_model.specs.Worlds.{World, stand_of, seat_of, actor_of}
 use Rattle.vi_model.specs.Rounds.{actors, has_lines, is_finished, is_driver_finished, is_back_finished}
 use Rattle.vi_model.specs.Playable.{IsPlayable}
 use Rattle.vi_model.specs.Sound.{IsSound}
-use Rattle.vi_sound.proofs.Owns.{places_have_ids}
+use Rattle.vi_sound.proofs.Values.Owns.{places_have_ids}
 use Rattle.vi_control.specs.Value.{ControlValue}
 use Rattle.vi_turns.specs.Ended.{of_entries, IsHistory, IsClosed}
 use Rattle.vi_turns.specs.Holding.{Taken, Last}

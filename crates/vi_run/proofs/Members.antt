@@ -14,7 +14,7 @@ use Rattle.vi_model.specs.Control.{driver_count}
 use Rattle.vi_model.specs.Places.{ids_of, id_at, place_count, place_in, place_of}
 use Rattle.vi_model.specs.Rounds.{has_lines, drivers_of, backs_of, actors}
 use Rattle.vi_model.specs.Playable.{IsPlayable}
-use Rattle.vi_sound.proofs.Owns.{places_have_ids}
+use Rattle.vi_sound.proofs.Values.Owns.{places_have_ids}
 use Rattle.vi_turns.specs.Views.{who_of}
 
 -- ---- standing in a list

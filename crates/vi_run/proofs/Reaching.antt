@@ -37,7 +37,7 @@ use Rattle.vi_core.specs.BackTurns.{IsBacksAccess, Reached}
 use Rattle.vi_core.specs.declared.turned.Turned.TheVariants.{Moved}
 use Rattle.vi_core.proofs.MovingBacks.{page_wished}
 use Rattle.vi_core.proofs.Needs.{wishes_access}
-use Rattle.vi_sound.proofs.PageRoom.{page_room}
+use Rattle.vi_sound.proofs.Space.PageRoom.{page_room}
 use Rattle.vi_turns.specs.Holding.{ThePage}
 use Rattle.vi_turns.specs.Views.{access_by, accesses_by, accesses_of, access_of, logged, won_page, stamped, gave_back}
 use Rattle.vi_turns.specs.Order.{IsSoundAt, IsPlaced}

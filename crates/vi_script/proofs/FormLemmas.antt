@@ -7,7 +7,7 @@ use Rattle.vi_words.specs.Words.{is_word}
 use Rattle.vi_script.specs.declared.fault.BadKind.{BadKind}
 use Rattle.vi_script.specs.declared.fault.BadKind.TheVariants as bad
 use Rattle.vi_lines.specs.declared.line.Line.{Line}
-use Rattle.vi_script.specs.Forms.{Act, Form, SetsMemory, SetsQueue, SetsCache, SetsGranule, SetsInput, StartsBypass, StartsEvents, DeclaresEndpoint, Reserves, TakesTurns, Acts, Deed, Attaches, Detaches, Maps, Unmaps, Probes, SetsBypass, SendsRaw, Reads, Writes, ending_of, switch_of, kind_of, turns_in_words, act_with, attach_ending, map_ending, attach_act, detach_act, map_act, unmap_act, probe_act, raw_act, bypass_act, read_act, write_act, request_act, driver_act, back_act, act_of, number_form, switch_form, input_form, reserve_form, turns_form, actor_form, line_form, caller_of, form_of}
+use Rattle.vi_script.specs.Forms.{Act, Form, SetsMemory, SetsQueue, SetsCache, SetsGranule, SetsInput, StartsBypass, StartsEvents, DeclaresEndpoint, Reserves, TakesTurns, Acts, Deed, Attaches, Detaches, Maps, Unmaps, Probes, SetsBypass, SendsRaw, Reads, Writes, ending_of, switch_of, kind_of, turns_in_words, act_with, attach_act, detach_act, map_act, unmap_act, probe_act, raw_act, bypass_act, read_act, write_act, request_act, driver_act, back_act, act_of, number_form, switch_form, input_form, reserve_form, turns_form, actor_form, line_form, caller_of, form_of}
 use Rattle.vi_script.specs.Forms as option
 use Rattle.vi_script.specs.Statements.{Statement, Memory, Queue, Cache, Granule, Input, Bypass, Events, Endpoint, Reserve, Turns, Actor, number_at, id_at, bytes_at, raw_bytes_at, span_at, names_fit, turn_fits, job_of, line_with, statement_of}
 use Rattle.vi_script.specs.Statements as result

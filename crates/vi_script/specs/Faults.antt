@@ -27,7 +27,7 @@ abbrev pub fault_text : ScriptFault → List ℕ
 fault_text (fault.Bad line kind) = codes "bad script line " ++ decimal line ++ codes ": " ++ kind_text kind
 fault_text fault.OutOfMemory = codes "out of memory"
 
--- Words have this form, seen as such a value; where they have none they are refused, if not for want of memory.
+-- Words have this form, seen as such a value; where they have none they are refused, unless memory is out.
 abbrev pub Refuses : {V : Type 0} → Refusal → Option V → Type 0
 Refuses (refusal.Bad kind) form = (kind ≡ bad.Word) × (form ≡ None)
 Refuses refusal.OutOfMemory form = Unit {0}
@@ -37,7 +37,7 @@ Finds value (Ok x) form = form ≡ Some (value x)
 Finds value (Err refusal) form = Refuses refusal form
 
 -- What was read is what stands there, seen as such a value; what is refused is refused there with this kind, or
--- for want of memory.
+-- because memory is out.
 abbrev pub Reads : {T V : Type 0} → (T → V) → Result T Refusal → Result V BadKind → Type 0
 Reads value (Ok x) meaning = meaning ≡ Ok (value x)
 Reads value (Err (refusal.Bad kind)) meaning = meaning ≡ Err kind

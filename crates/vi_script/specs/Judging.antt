@@ -1,5 +1,5 @@
 -- Which kind of refusal applies to a line, by what the lines above it say: the first of a fixed order.
-use Rattle.std.specs.Prelude.{◌==◌, ℕ, ◌+◌, ◌%◌, ◌^◌, Bool, true, false, not, ◌&&◌, ◌||◌, nat_lt, nat_le, if◌then◌else◌, List, [], ◌∷◌, ◌++◌, length, filter, Option, Some, None, is_some, Result, Ok, Err}
+use Rattle.std.specs.Prelude.{◌==◌, ℕ, ◌+◌, Bool, true, false, not, ◌&&◌, ◌||◌, nat_lt, nat_le, if◌then◌else◌, List, [], ◌∷◌, ◌++◌, length, Option, Some, None, is_some, Result, Ok, Err}
 use Rattle.std.specs.List.{list_any, list_all, find}
 use Rattle.vi_bytes.specs.Spans.{meets}
 use Rattle.vi_bytes.specs.declared.span.Span.{Span}
@@ -9,15 +9,12 @@ use Rattle.vi_history.specs.declared.call.Caller.{Caller}
 use Rattle.vi_history.specs.declared.call.Caller.TheVariants.{Driver, Back}
 use Rattle.vi_script.specs.declared.fault.BadKind.{BadKind}
 use Rattle.vi_script.specs.declared.fault.BadKind.TheVariants as bad
-use Rattle.vi_lines.specs.declared.job.Job.{Job}
 use Rattle.vi_lines.specs.declared.job.Job.TheVariants as job
 use Rattle.vi_lines.specs.declared.line.Line.{Line}
-use Rattle.vi_lines.specs.declared.line.Await.{Await}
 use Rattle.vi_lines.specs.declared.line.Who.{Who}
 use Rattle.vi_lines.specs.declared.line.Who.TheVariants as who
-use Rattle.vi_lines.specs.Calls.{same_caller}
 use Rattle.vi_script.specs.Forms.{Form, SetsGranule, Acts}
-use Rattle.vi_lines.specs.Limits.{is_memory, is_queue, is_cache, is_granule, is_length, is_job, is_driver, transferred, bytes_in, open_calls}
+use Rattle.vi_lines.specs.Limits.{is_memory, is_queue, is_cache, is_granule, is_job, is_driver, transferred, bytes_in, open_calls}
 use Rattle.vi_lines.specs.Rules.{is_aligned, job_runs_over, awaits_well}
 use Rattle.vi_script.specs.Said.{Said, granule_of}
 use Rattle.vi_script.specs.Statements.{Statement, Memory, Queue, Cache, Granule, Input, Bypass, Events, Endpoint, Reserve, Turns, Actor}

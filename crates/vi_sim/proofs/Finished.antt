@@ -8,8 +8,8 @@ use Rattle.vi_model.specs.Playable.{IsPlayable}
 use Rattle.vi_model.specs.Sound.{SoundParts, IsSound}
 use Rattle.vi_model.specs.Rounds.{is_finished, actors, rounds}
 use Rattle.vi_model.specs.Bound.{measure}
-use Rattle.vi_sound.proofs.Turns.{run_sound}
-use Rattle.vi_sound.proofs.Rounds.{round_falls}
+use Rattle.vi_sound.proofs.Moves.Turns.{run_sound}
+use Rattle.vi_sound.proofs.Falling.Rounds.{round_falls}
 use Rattle.vi_core.specs.Running.{Running}
 use Rattle.vi_sim.specs.Simulated.{after_rounds}
 use Rattle.vi_sim.proofs.Runs.{run_is}

@@ -12,12 +12,12 @@ use Rattle.vi_model.specs.Playable.{IsPlayable}
 use Rattle.vi_model.specs.Sound.{SoundParts, IsSound}
 use Rattle.vi_model.specs.Rounds.{is_finished, actors, calls_of, rounds}
 use Rattle.vi_model.specs.Bound.{measure}
-use Rattle.vi_sound.proofs.Opening.{opening_sound}
-use Rattle.vi_sound.proofs.Turns.{run_sound}
-use Rattle.vi_sound.proofs.Rounds.{run_low, rounds_finish}
-use Rattle.vi_sound.proofs.Finishes.{opening_low}
-use Rattle.vi_sound.proofs.Ended.{finished_is_ordered}
-use Rattle.vi_sound.proofs.Tested.{finished_has_finished}
+use Rattle.vi_sound.proofs.Moves.Opening.{opening_sound}
+use Rattle.vi_sound.proofs.Moves.Turns.{run_sound}
+use Rattle.vi_sound.proofs.Falling.Rounds.{run_low, rounds_finish}
+use Rattle.vi_sound.proofs.Falling.Finishes.{opening_low}
+use Rattle.vi_sound.proofs.Falling.Ended.{finished_is_ordered}
+use Rattle.vi_sound.proofs.Falling.Tested.{finished_has_finished}
 use Rattle.vi_sound.proofs.Laws.{sound_is_legal}
 use Rattle.vi_core.proofs.OutcomeLaws.{outcome_records}
 use Rattle.vi_core.specs.Running.{Running, opened}

@@ -15,9 +15,9 @@ use Rattle.vi_model.specs.Worlds.{World, actor_of, with_actor, opening}
 use Rattle.vi_model.specs.Turns.{accessed_page, made_entries, run}
 use Rattle.vi_model.specs.Sound.{SoundParts, IsSound}
 use Rattle.vi_model.specs.Laws.{OpeningIsSound, ControlKeepsSound, AccessesKeepSound, TurnsKeepSound, FewerLeasesKeepSound, SoundIsLegal, EveryRunIsLegal, same_actor, OthersStay}
-use Rattle.vi_sound.proofs.Opening.{opening_sound}
-use Rattle.vi_sound.proofs.Turns as Turns
-use Rattle.vi_sound.proofs.Lost.{left_out}
+use Rattle.vi_sound.proofs.Moves.Opening.{opening_sound}
+use Rattle.vi_sound.proofs.Moves.Turns as Turns
+use Rattle.vi_sound.proofs.Values.Lost.{left_out}
 
 pub opening_is_sound : OpeningIsSound
 unfolding IsSound

@@ -22,7 +22,8 @@ use Rattle.vi_lines.specs.declared.line.Who.TheVariants as who
 use Rattle.vi_lines.specs.Value.{ScriptValue}
 use Rattle.vi_lines.specs.Calls.{call_of}
 use Rattle.vi_lines.specs.Valid.{IsValidSetup, IsValid}
-use Rattle.vi_model.specs.Playable.{HasFields, IsPlayable}
+use Rattle.vi_lines.specs.Fields.{HasFields}
+use Rattle.vi_model.specs.Playable.{IsPlayable}
 use Rattle.vi_model.specs.Tasks.{removes, closes}
 use Rattle.vi_model.specs.Cuts.{cut}
 use Rattle.vi_model.specs.Posted.{is_awaited}

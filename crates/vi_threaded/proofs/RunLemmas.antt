@@ -14,8 +14,8 @@ use Rattle.vi_model.specs.Worlds.{World}
 use Rattle.vi_model.specs.Rounds.{is_finished}
 use Rattle.vi_model.specs.Playable.{IsPlayable}
 use Rattle.vi_model.specs.Sound.{IsSound}
-use Rattle.vi_sound.proofs.Ended.{finished_is_ordered}
-use Rattle.vi_sound.proofs.Tested.{finished_has_finished}
+use Rattle.vi_sound.proofs.Falling.Ended.{finished_is_ordered}
+use Rattle.vi_sound.proofs.Falling.Tested.{finished_has_finished}
 use Rattle.vi_sound.proofs.Laws.{sound_is_legal}
 use Rattle.vi_core.proofs.OutcomeLaws.{outcome_records}
 use Rattle.vi_order.proofs.Unmapped.{unmaps_hold}

@@ -21,7 +21,7 @@ use Rattle.vi_model.specs.Laws.{same_actor, with_leases}
 use Rattle.vi_model.specs.Playable.{IsPlayable}
 use Rattle.vi_model.specs.Sound.{IsSound}
 use Rattle.vi_sound.proofs.Laws.{others_stay, fewer_leases_keep_sound}
-use Rattle.vi_sound.proofs.Owns.{actors_go_on, actors_access, places_have_ids}
+use Rattle.vi_sound.proofs.Values.Owns.{actors_go_on, actors_access, places_have_ids}
 use Rattle.vi_turns.specs.Order.{HasActor}
 use Rattle.vi_turns.specs.Views.{who_of}
 use Rattle.vi_turns.proofs.Getting.{get_longer}

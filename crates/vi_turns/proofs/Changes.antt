@@ -16,8 +16,8 @@ use Rattle.vi_model.specs.Turns.{ControlTurn, AccessTurn, control_turn, accesses
 use Rattle.vi_model.specs.Playable.{IsPlayable}
 use Rattle.vi_model.specs.Sound.{IsSound}
 use Rattle.vi_sound.proofs.Laws.{control_keeps_sound}
-use Rattle.vi_sound.proofs.Turns.{page_is}
-use Rattle.vi_sound.proofs.PageRoom.{page_room}
+use Rattle.vi_sound.proofs.Moves.Turns.{page_is}
+use Rattle.vi_sound.proofs.Space.PageRoom.{page_room}
 use Rattle.vi_turns.specs.Holding.{Held, TheControl, ThePage}
 use Rattle.vi_turns.specs.Views.{who_of}
 use Rattle.vi_turns.specs.Order.{slot_of, Has, HasActor, IsInOrder}

@@ -18,7 +18,7 @@ use Rattle.vi_model.specs.Worlds.{World, actor_of}
 use Rattle.vi_model.specs.Turns.{ControlTurn, AccessTurn, control_turn, accesses, access_turn, made_entries, left_by, left_by_access}
 use Rattle.vi_model.specs.Sound.{IsSound}
 use Rattle.vi_sound.proofs.Laws.{accesses_keep_sound, sound_is_legal}
-use Rattle.vi_sound.proofs.Room.{history_fits}
+use Rattle.vi_sound.proofs.Space.Room.{history_fits}
 use Rattle.vi_turns.specs.Holding.{Held, TheControl, ThePage}
 use Rattle.vi_turns.specs.Views.{who_of, turn_by, turn_of, accesses_by, access_by, access_of, same, stamp_count, logged, stamped, stamped_by, stamped_turn, stamped_access}
 use Rattle.vi_turns.specs.Order.{slot_of, word_of, Has, HoldsNot, Lock, held, Each, HasActor, IsTaken, Knows, IsInOrder, Told}

@@ -1,4 +1,4 @@
-use Rattle.vi_sound.proofs.Owns as laws
+use Rattle.vi_sound.proofs.Values.Owns as laws
 use Rattle.vi_sound.proofs.actors_go_on.Goals as goal
 
 pub returns : goal.returns

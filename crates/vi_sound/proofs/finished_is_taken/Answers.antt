@@ -1,4 +1,4 @@
-use Rattle.vi_sound.proofs.Taken as laws
+use Rattle.vi_sound.proofs.Moves.Taken as laws
 use Rattle.vi_sound.proofs.finished_is_taken.Goals as goal
 
 pub returns : goal.returns

@@ -1,4 +1,4 @@
-use Rattle.vi_sound.proofs.Lowers as laws
+use Rattle.vi_sound.proofs.Falling.Lowers as laws
 use Rattle.vi_sound.proofs.moves_lower.Goals as goal
 
 pub returns : goal.returns

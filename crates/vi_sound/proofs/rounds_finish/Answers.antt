@@ -1,4 +1,4 @@
-use Rattle.vi_sound.proofs.Finishes as laws
+use Rattle.vi_sound.proofs.Falling.Finishes as laws
 use Rattle.vi_sound.proofs.rounds_finish.Goals as goal
 
 pub returns : goal.returns

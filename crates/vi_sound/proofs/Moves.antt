@@ -1,0 +1,20 @@
+-- Each move of each actor keeps the world sound, the opening world first.
+pub mod Wholes
+pub mod Receives
+pub mod Acks
+pub mod Grants
+pub mod Starts
+pub mod Shows
+pub mod Accesses
+pub mod AccessSound
+pub mod Asks
+pub mod Hears
+pub mod Drives
+pub mod Calls
+pub mod Holds
+pub mod Serves
+pub mod Devices
+pub mod Turns
+pub mod Opening
+pub mod Delivered
+pub mod Taken

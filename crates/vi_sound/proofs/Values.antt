@@ -1,0 +1,21 @@
+-- What is true of lists, tables, leases, histories and calls, before any turn is looked at.
+pub mod Finds
+pub mod Keeps
+pub mod Commits
+pub mod Aligned
+pub mod Runs
+pub mod Leases
+pub mod Histories
+pub mod Batches
+pub mod Frames
+pub mod Tables
+pub mod Links
+pub mod Ids
+pub mod Tells
+pub mod Parcels
+pub mod Lost
+pub mod Sums
+pub mod Known
+pub mod Owns
+pub mod Totals
+pub mod DueParts
