@@ -1,5 +1,7 @@
-//! Tests of the core: a driver, a back end and the control by themselves, a world turn by turn, and the shared object with its
-//! passes and actors.
+//! Tests of `vi_driver`, `vi_backend`, `vi_control`, `vi_core`, `vi_sim`, `vi_turns` and `vi_run`,
+//! by public calls. Most tests read a script with `script_of`, build a value, and compare what
+//! calls answer. Calls stand in helpers whose conditions say what the value has to be; a test has
+//! the expected answers. A new file is named here under `#[cfg(test)]`.
 #![tactic(auto)]
 
 #[cfg(test)]

@@ -1,4 +1,7 @@
-//! Tests of the program as a user meets it: `plain_top` and `top` on scripts of the repository's own, with faults of source and sink.
+//! Tests of `plain_top` and `top` as a user meets them, with faults of source and sink. Most tests
+//! are a command line, an input and the expected status and text: `ran` calls `plain_top`, and
+//! `ended` calls `top` with a gate. Scripts with their reports stand in `cases.rt` and
+//! `sim_cases.rt`: a line `case`, the script, a line `writes`, and the text.
 #![tactic(auto)]
 
 #[cfg(test)]

@@ -1,5 +1,34 @@
-//! Why no access is stale: laws of the core's turns, each as the contract of a function that does nothing. Every turn keeps the
-//! world sound, a sound world's history is legal, there is room in it for what a turn adds, and rounds of turns finish every line.
+//! Why no access is stale: laws of the core's turns, each as the contract of a function that does
+//! nothing. Every turn keeps the world sound, a sound world's history is legal, there is room in
+//! it for what a turn adds, and rounds of turns finish every line. For an author of proofs on a
+//! core.
+//!
+//! Main calls:
+//! - `turns_keep_sound`: every turn of any actor keeps a sound world sound.
+//! - `sound_is_legal`: the history of a sound world is legal and in order so far.
+//! - `finished_is_taken`: when a removal is finished, no back end caches a page that it takes away.
+//!
+//! # How it is used
+//!
+//! `crates/vi_run/proofs/Opening.antt` begins a run with `sound = opening_is_sound s play;`. For
+//! the world `y` behind a new entry, `crates/vi_turns/proofs/Stamps.antt` has:
+//! `let legal = sound_is_legal s y sound in record {`
+//!
+//! Code cites a law by a call: `vi_sound::valid_is_playable();` in
+//! `crates/tests_core/src/scripts.rt`.
+//!
+//! # Limits
+//!
+//! The laws are on the definitions of `vi_model`, where one turn follows another; that code does
+//! these turns is proved in `vi_core`, `vi_turns` and `vi_run`. Many ask for a playable script,
+//! one that is valid and whose requests fit their fields. A sound world has at most 8 open calls
+//! of drivers, and fewer than 2^64 entries. `rounds_finish` is on rounds of one turn of each
+//! actor, and not on threads. No function here runs code or takes memory.
+//!
+//! # Source
+//!
+//! A legal history is one of the one-thread device of `vi_history`, which restates Virtio 1.2,
+//! 5.13.
 #![tactic(auto)]
 
 ghost use Rattle.vi_model.specs.Bound.{MovesLower};

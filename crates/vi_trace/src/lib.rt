@@ -1,16 +1,38 @@
-//! Were the recorded IOTLB messages obeyed? A trace is the log of one back end's main channel: the frames that went to
-//! it and came from it, in order, and its uses of addresses between them. This crate is for authors of back ends, who
-//! print such a log in their tests, for authors of the device's side of the channel, and for fuzzers.
+//! Were the recorded IOTLB messages obeyed? A trace is the log of one back end's main channel: the
+//! frames that went to it and came from it, in order, and its uses of addresses between them. This
+//! crate is for authors of back ends, who print such a log in their tests, for authors of the
+//! device's side of the channel, and for fuzzers.
 //!
-//! `parse` reads a trace from a text of lines `down HEX`, `up HEX`, `use A r` and `use A w`. `judge` says that it
-//! holds, or names the first line at which a rule is broken and which one, and `Finding::text` writes that. Where a
-//! trace holds, no cache that is built lawfully from its frames has a page of an acknowledged span before a later
-//! Update of the page, and each use was permitted by an Update that no Ack had taken back (`laws`).
+//! Main calls:
+//! - `parse`: the trace of lines `down HEX`, `up HEX`, `use A r`, `use A w`, or the first bad line.
+//! - `judge`: that a trace holds, or the first line at which a rule is broken, and which one.
+//! - `Finding::text`: the line `held` or `breaks L RULE` that says so.
 //!
-//! Limits: a text has fewer than 2^32 - 1 bytes. The frames are those of `vi_iotlb`, with one form of flags each and
-//! Updates within a block of 16 pages; the log of another implementation is rewritten into these first. An Ack costs the
-//! kept pages that it takes, whatever its span has else and however many are kept; an Update is compared with each open
-//! Invalidate.
+//! Where a trace holds, no cache that is built lawfully from its frames has a page of an
+//! acknowledged span before a later Update of the page. Each use was permitted by an Update that no
+//! Ack had taken back (`laws`).
+//!
+//! # Example
+//! A test of `tests_codecs` runs this, where `text` is a trace of its table:
+//! ```
+//! match parse(alloc, text) {
+//!     Ok(trace) => Ok(judge(alloc, &trace)?.text(alloc)?),
+//!     Err(fault) => {
+//!         let said = format!(in alloc; "{fault}\n")?;
+//!         Ok(Bytes::from_vec(said.into_bytes()))
+//!     }
+//! }
+//! ```
+//!
+//! # Limits
+//! - A text has fewer than 2^32 - 1 bytes. Addresses are in bytes, and pages have 4096 bytes.
+//! - The frames are those of `vi_iotlb`, with one form of flags each and Updates within a block of
+//!   16 pages. The log of another implementation is rewritten into these first.
+//! - Only Updates, Invalidates and Acks are taken: a Miss, an AccessFail or a Reply breaks a rule.
+//! - Each of the three calls takes memory, and out of memory is an error of it.
+//!
+//! # Source
+//! The vhost-user protocol, for the frames.
 #![tactic(auto)]
 
 mod cache;

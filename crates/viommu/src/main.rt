@@ -1,4 +1,20 @@
-//! The program `viommu`: a Virtio IOMMU device with caching back ends, run by scripts.
+//! The program `viommu`: a Virtio IOMMU device with caching back ends, run by scripts, for testers
+//! of devices, drivers and back ends. `main` hands the words of the command line, standard input
+//! and standard output to `top` of `vi_threaded`. It ends with the status's number.
+//!
+//! Main calls:
+//! - `viommu run W` answers the report of a run of the script on W threads.
+//! - `viommu one` answers the one-thread device's replies, in the order of the text.
+//! - `viommu check` answers `legal`, or what is wrong first with the report behind the script.
+//!
+//! # Limits
+//! A script has at most 1,048,576 bytes, the input of `check` 67,108,864. Words that can't be read
+//! as text are no words, so the status is Usage. Out of memory is status 8. No clause speaks of
+//! `main`; `top` has them. The stored run of this crate (`args`, `stdin`, `stdout`) is tested. The
+//! program isn't a device for a live guest, and has no PCI or MMIO transport.
+//!
+//! # Source
+//! Virtio 1.2, 5.13.
 #![tactic(auto)]
 
 use std::alloc::AllocError;
@@ -21,7 +37,7 @@ fn main(rt: HostRuntime) -> ExitCode {
 }
 
 /// The words behind the program's name. Where they can't be read as text there are none, and so
-/// they are no form of the command line. An error is want of memory.
+/// they are no form of the command line. An error means out of memory.
 fn read_words(rt: &(impl Env + AllocGlobal)) -> Result<Vec<String>, AllocError> {
     match env::args(rt) {
         Ok(words) => words.skip(1).collect(rt.alloc()),
