@@ -56,7 +56,7 @@ fn push_copy(alloc: Global, lines: &mut Vec<Line>, line: Option<&Line>) -> Resul
     Ok(())
 }
 
-/// A copy of the caller's lines, in the script's order. An error is want of memory.
+/// A copy of the caller's lines, in the script's order. An error means out of memory.
 #[tactic(auto, using(crate::proofs::Copying::take_listed))]
 pub fn copied_lines(alloc: Global, script: &Script, caller: Caller) -> Result<Vec<Line>, AllocError>
     ensures { IfOk result (λ lines. lines.items ≡ lines_of script.now caller) }

@@ -80,7 +80,7 @@ impl<T> Items<T> {
 }
 
 impl<T: Copy> Items<T> {
-    /// A copy of a slice's elements. An error is want of memory.
+    /// A copy of a slice's elements. An error means out of memory.
     pub fn of(alloc: Global, items: &[T]) -> Result<Items<T>, AllocError>
         ensures { IfOk result (λ it. it ≡ items.now) }
     {

@@ -85,7 +85,7 @@ impl Model for Calls {
 }
 
 impl Calls {
-    /// No open call, and a virtqueue of so many descriptors. An error is want of memory.
+    /// No open call, and a virtqueue of so many descriptors. An error means out of memory.
     pub fn build(alloc: Global, size: u16) -> Result<Calls, AllocError>
         requires { IsRingSize size }
         ensures { IfOk result (λ c. c ≡ no_calls) }

@@ -24,7 +24,7 @@ impl Model for Entered {
 }
 
 impl Entered {
-    /// So many lines, none with an entry. An error is want of memory.
+    /// So many lines, none with an entry. An error means out of memory.
     pub fn none(alloc: Global, count: u32) -> Result<Entered, AllocError>
         ensures { IfOk result (λ e. e ≡ replicate count false) }
     {

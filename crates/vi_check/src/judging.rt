@@ -15,7 +15,7 @@ use vi_lines::Script;
 /// The verdict on a report of a script. The entries are gone through from the first on. One is `Extra` where it answers
 /// no call of the script that is left, `Order` where its call isn't due or an awaited line isn't finished, and `Wrong`
 /// where the one-thread device answers otherwise after the entries before it. Behind the entries a call that is left is
-/// `Missing`, and then the fault records are compared with those of the entries. An error is want of memory.
+/// `Missing`, and then the fault records are compared with those of the entries. An error means out of memory.
 pub fn check(alloc: Global, script: &Script, report: &Outcome) -> Result<Verdict, AllocError>
     requires valid { IsValid script.now }
     requires well_made { IsWellMade report.now }

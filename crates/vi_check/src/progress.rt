@@ -51,7 +51,7 @@ impl Model for Progress {
 }
 
 impl Progress {
-    /// No caller of the script has an entry. An error is want of memory.
+    /// No caller of the script has an entry. An error means out of memory.
     pub fn new(alloc: Global, script: &Script) -> Result<Progress, AllocError>
         ensures { IfOk result (λ p. p ≡ nothing_seen script.now) }
     {

@@ -41,7 +41,7 @@ pub enum Verdict {
 
 impl Verdict {
     /// The verdict as a line of text with its LF, its answers and its call spelled as in reports: `legal`,
-    /// `wrong N want ANSWER got ANSWER`, `order N`, `extra N`, `missing NAME` or `faults N`. An error is want of memory.
+    /// `wrong N want ANSWER got ANSWER`, `order N`, `extra N`, `missing NAME` or `faults N`. An error means out of memory.
     pub fn text(&self, alloc: Global) -> Result<Bytes, AllocError>
         ensures { IfOk result (λ text. text ≡ verdict_text self.now) }
     {

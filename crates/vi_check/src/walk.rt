@@ -40,7 +40,7 @@ impl Model for Walk {
 }
 
 impl Walk {
-    /// Before the first entry. An error is want of memory.
+    /// Before the first entry. An error means out of memory.
     pub fn new(alloc: Global, script: &Script) -> Result<Walk, AllocError>
         requires { IsValid script.now }
         ensures { IfOk result (λ walk. walk ≡ walked_of script.now []) }
@@ -59,7 +59,7 @@ impl Walk {
         self.records.as_slice()
     }
 
-    /// What is wrong with the first entry with which something is. An error is want of memory.
+    /// What is wrong with the first entry with which something is. An error means out of memory.
     pub fn first_finding(
         &mut self,
         alloc: Global,
@@ -191,7 +191,7 @@ fn same_answer(one: &Entry, other: &Entry) -> bool
         && one.bytes.as_slice() == other.bytes.as_slice()
 }
 
-// A copy of an entry. An error is want of memory.
+// A copy of an entry. An error means out of memory.
 fn copy_of(alloc: Global, entry: &Entry) -> Result<Entry, AllocError>
     ensures { IfOk result (λ copy. copy ≡ entry.now) }
 {

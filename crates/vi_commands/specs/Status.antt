@@ -31,7 +31,7 @@ abbrev pub bad_report_text : ℕ → List ℕ
 bad_report_text line = line_of (codes "bad report line " ++ decimal line)
 
 -- The text that is written with a status. With Ok and Wrong the command's own text is written, and after a fault
--- or want of memory none.
+-- or where memory is out none.
 abbrev pub status_text : Status → List ℕ
 status_text Ok = []
 status_text Usage = line_of (codes "usage: viommu run W | sim S T | one | check | make N | load N W")

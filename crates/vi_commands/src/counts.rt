@@ -40,7 +40,7 @@ impl Counts {
         }
     }
 
-    /// The number of the caller's next line, from 1, which counts from now on. An error is want of memory.
+    /// The number of the caller's next line, from 1, which counts from now on. An error means out of memory.
     pub fn next(&mut self, caller: Caller) -> Result<u32, AllocError>
         requires { number_for self.old caller < 2 ^ 32 - 1 }
         ensures number { IfOk result (λ n. n ≡ number_for self.old caller + 1) }

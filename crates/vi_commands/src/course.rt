@@ -37,7 +37,7 @@ impl Model for Course {
 }
 
 impl Course {
-    /// Nothing was asked yet. An error is want of memory.
+    /// Nothing was asked yet. An error means out of memory.
     pub fn new(alloc: Global, setup: &Setup) -> Result<Course, AllocError>
         requires { IsPlainSetup setup.now }
         ensures { IfOk result (λ c. c ≡ nothing_replied setup.now) }
@@ -50,7 +50,7 @@ impl Course {
     }
 
     /// Replies to the line, which is its caller's line of this number: a transfer's parts up to the first
-    /// that faults. An error is want of memory.
+    /// that faults. An error means out of memory.
     pub fn reply_to(&mut self, alloc: Global, line: &Line, number: u32) -> Result<(), AllocError>
         requires taken { IsTaken line.now }
         requires number { 1 ≤ number }

@@ -38,7 +38,7 @@ impl fmt::Display for InputFault {
 impl Error for InputFault {}
 
 /// Reads the source to its end, in pieces of at most 4096 bytes, until a read gives 0 bytes or
-/// more than `limit` bytes were read. At want of memory the bytes that were read are lost.
+/// more than `limit` bytes were read. Where memory is out, the bytes that were read are lost.
 pub fn read_input<S: Source>(alloc: Global, source: &mut S, limit: u32) -> Result<Bytes, InputFault>
     ensures all { IfOk result (ReadsAll (S.left source.old) (S.left source.new)) }
     ensures within { IfOk result (λ input. length input ≤ limit) }

@@ -30,7 +30,7 @@ impl ListSink {
     ghost use Rattle.vi_commands.specs.ListSink.{room_of, next_write, write_faults};
 
     /// A sink with room for so many bytes, which has taken nothing, with no call made and no
-    /// fault. All its memory is taken here. An error is want of memory.
+    /// fault. All its memory is taken here. An error means out of memory.
     pub fn with_room(
         alloc: Global,
         room: u32,

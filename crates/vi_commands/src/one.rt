@@ -11,7 +11,7 @@ use vi_history::Outcome;
 use vi_lines::Script;
 
 /// Replies to the script's lines in the order of the text, without caches or threads, a transfer's parts up
-/// to the first that faults. All records are shown. An error is want of memory.
+/// to the first that faults. All records are shown. An error means out of memory.
 #[tactic(auto, unfolding(crate::specs::OneThread::one_thread))]
 pub fn one_thread(alloc: Global, script: &Script) -> Result<Outcome, AllocError>
     requires { IsValid script.now }

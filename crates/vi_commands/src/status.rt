@@ -55,7 +55,7 @@ impl Status {
     }
 
     /// The text that is written with the status: one line, or nothing. With `Ok` and `Wrong` a command
-    /// writes its own text in its place. An error is want of memory.
+    /// writes its own text in its place. An error means out of memory.
     pub fn text(&self, alloc: Global) -> Result<Bytes, AllocError>
         ensures { IfOk result (λ text. text ≡ status_text self.now) }
     {

@@ -34,7 +34,7 @@ pub struct Answer {
     pub text: Bytes,
 }
 
-/// Does the work on this input. An error is want of memory.
+/// Does the work on this input. An error means out of memory.
 pub fn work(alloc: Global, task: Task, input: &[u8]) -> Result<Answer, AllocError>
     requires { length input.now ≤ limit_of task }
     ensures { IfOk result (λ answer. Does task input.now answer.status answer.text) }
@@ -59,7 +59,7 @@ fn accepted(alloc: Global, task: Task, input: &[u8]) -> Result<Script, ScriptFau
     }
 }
 
-/// What comes of a script. An error is want of memory.
+/// What comes of a script. An error means out of memory.
 fn answer_to(alloc: Global, task: Task, input: &[u8], script: Script) -> Result<Answer, AllocError>
     requires valid { IsValid script }
     requires fields { HasFields script }
@@ -76,7 +76,7 @@ fn answer_to(alloc: Global, task: Task, input: &[u8], script: Script) -> Result<
     }
 }
 
-/// Reads the report, and gives the verdict on it. An error is want of memory.
+/// Reads the report, and gives the verdict on it. An error means out of memory.
 fn judge(alloc: Global, input: &[u8], script: &Script) -> Result<Answer, AllocError>
     requires valid { IsValid script.now }
     requires within { length input.now ≤ CHECK_LIMIT }
@@ -89,7 +89,7 @@ fn judge(alloc: Global, input: &[u8], script: &Script) -> Result<Answer, AllocEr
     }
 }
 
-/// The verdict on a report. An error is want of memory.
+/// The verdict on a report. An error means out of memory.
 fn verdict_on(alloc: Global, script: &Script, report: &Outcome) -> Result<Answer, AllocError>
     requires valid { IsValid script.now }
     requires well_made { IsWellMade report.now }
@@ -113,7 +113,7 @@ fn status_of(verdict: &Verdict) -> Status
 }
 
 /// Runs the script under the schedule that is drawn from `generator_seed`, with so many drawn turns, and reports the
-/// run. An error is want of memory.
+/// run. An error means out of memory.
 fn sim(alloc: Global, script: Script, generator_seed: u64, moves: u32) -> Result<Answer, AllocError>
     requires valid { IsValid script }
     requires fields { HasFields script }
@@ -123,7 +123,7 @@ fn sim(alloc: Global, script: Script, generator_seed: u64, moves: u32) -> Result
     report(alloc, &outcome)
 }
 
-/// Reports the replies of the one-thread device. An error is want of memory.
+/// Reports the replies of the one-thread device. An error means out of memory.
 fn one(alloc: Global, script: &Script) -> Result<Answer, AllocError>
     requires { IsValid script.now }
     ensures { (input : List ℕ) → IfOk result (λ answer. Answers Task.One input script.now answer.status answer.text) }
@@ -132,7 +132,7 @@ fn one(alloc: Global, script: &Script) -> Result<Answer, AllocError>
     report(alloc, &outcome)
 }
 
-/// The report of an outcome. An error is want of memory.
+/// The report of an outcome. An error means out of memory.
 fn report(alloc: Global, outcome: &Outcome) -> Result<Answer, AllocError>
     requires { IsWellMade outcome.now }
     ensures status { IfOk result (λ answer. answer.status ≡ Status.Ok) }

@@ -52,7 +52,7 @@ impl Model for Control {
 
 impl Control {
     /// The control in which nothing has happened, with room for all mappings, grants and fault records that the script
-    /// can make. An error is want of memory.
+    /// can make. An error means out of memory.
     pub fn build(alloc: Global, script: &Script) -> Result<Control, AllocError>
         requires { IsValid script.now }
         ensures plan { IfOk result (λ c. c.plan ≡ plan_of script.now) }

@@ -15,7 +15,7 @@ use vi_config::Config;
 use vi_history::{Caller, Setup};
 use vi_lines::{Job, Line};
 
-/// The endpoints' ids in declared order. An error is want of memory.
+/// The endpoints' ids in declared order. An error means out of memory.
 pub(crate) fn ids_in(alloc: Global, endpoints: &[EndpointSetup]) -> Result<Vec<u32>, AllocError>
     ensures { IfOk result (λ ids. ids.items ≡ map (λ e. e.id) endpoints.now) }
 {
@@ -26,7 +26,7 @@ pub(crate) fn ids_in(alloc: Global, endpoints: &[EndpointSetup]) -> Result<Vec<u
     Ok(ids)
 }
 
-/// So many zeros. An error is want of memory.
+/// So many zeros. An error means out of memory.
 pub(crate) fn zeros(alloc: Global, count: usize) -> Result<Vec<u32>, AllocError>
     ensures { IfOk result (λ v. v.items ≡ replicate count 0) }
 {
@@ -71,7 +71,7 @@ fn transfers_in(alloc: Global, lines: &[Line], caller: Caller) -> Result<Vec<Tra
     Ok(transfers)
 }
 
-/// What the back end of each of the endpoints transfers, line by line. An error is want of memory.
+/// What the back end of each of the endpoints transfers, line by line. An error means out of memory.
 pub(crate) fn transfers_by(
     alloc: Global,
     lines: &[Line],

@@ -23,7 +23,7 @@ use vi_lanes::Lanes;
 use vi_lines::Script;
 use vi_removals::Removals;
 
-/// No removal, and what each back end transfers. An error is want of memory.
+/// No removal, and what each back end transfers. An error means out of memory.
 pub(crate) fn back_ends_of(
     alloc: Global,
     script: &Script,
@@ -37,7 +37,7 @@ pub(crate) fn back_ends_of(
     Ok((transfers, Removals::new(&ids)))
 }
 
-/// What has a row for each back end: the posted numbers, the grants and the lanes. An error is want of memory.
+/// What has a row for each back end: the posted numbers, the grants and the lanes. An error means out of memory.
 pub(crate) fn rows_of(
     alloc: Global,
     script: &Script,
@@ -54,7 +54,7 @@ pub(crate) fn rows_of(
     Ok((posted, grants, lanes))
 }
 
-/// The request queue, the event queue and the device. An error is want of memory.
+/// The request queue, the event queue and the device. An error means out of memory.
 pub(crate) fn device_of(
     alloc: Global,
     script: &Script,

@@ -43,7 +43,7 @@ impl Model for History {
 }
 
 impl History {
-    /// No entries, with room for so many and for so many bytes of theirs. An error is want of memory.
+    /// No entries, with room for so many and for so many bytes of theirs. An error means out of memory.
     pub fn with_room(alloc: Global, entries: u32, bytes: u32) -> Result<History, AllocError>
         ensures { IfOk result (λ h. h ≡ no_entries entries bytes) }
     {
@@ -71,7 +71,7 @@ impl History {
         self.spare_entries -= 1;
     }
 
-    /// A copy of the entries, in order. An error is want of memory.
+    /// A copy of the entries, in order. An error means out of memory.
     pub fn entries(&self, alloc: Global) -> Result<Vec<Entry>, AllocError>
         ensures { IfOk result (λ v. v.items ≡ self.now.entries) }
     {
@@ -83,7 +83,7 @@ impl History {
     }
 }
 
-// The entry that is kept so. An error is want of memory.
+// The entry that is kept so. An error means out of memory.
 fn copied(alloc: Global, bytes: &[u8], kept: &Kept) -> Result<Entry, AllocError>
     requires { EndsWithin (length bytes.now) kept.now }
     ensures { IfOk result (λ e. e ≡ entry_in bytes.now kept.now) }

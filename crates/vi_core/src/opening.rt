@@ -20,7 +20,7 @@ use vi_memory::{Page, zero_pages};
 /// How many drivers there are, some of them without lines.
 const DRIVERS: u8 = 8;
 
-/// The 8 drivers before their first calls. An error is want of memory.
+/// The 8 drivers before their first calls. An error means out of memory.
 pub fn drivers_of(alloc: Global, script: &Script) -> Result<Vec<Driver>, AllocError>
     ensures { IfOk result (λ drivers. drivers.items ≡ map (λ number. own_driver script.now number no_stand) (range_with_len 0 8)) }
 {
@@ -31,7 +31,7 @@ pub fn drivers_of(alloc: Global, script: &Script) -> Result<Vec<Driver>, AllocEr
     Ok(drivers)
 }
 
-/// The back ends in the order of their endpoints. An error is want of memory.
+/// The back ends in the order of their endpoints. An error means out of memory.
 pub fn backs_of(alloc: Global, script: &Script) -> Result<Vec<Backend>, AllocError>
     requires transfers { HasTransfers script.now }
     requires some { 1 ≤ script.now.setup.cache }
@@ -47,8 +47,8 @@ pub fn backs_of(alloc: Global, script: &Script) -> Result<Vec<Backend>, AllocErr
     Ok(backs)
 }
 
-/// What a world of the script is made of: the pages, the history, the drivers, the back ends and the control. An error is
-/// want of memory.
+/// What a world of the script is made of: the pages, the history, the drivers, the back ends and the control. An error
+/// means out of memory.
 pub fn parts_of(
     alloc: Global,
     script: &Script,

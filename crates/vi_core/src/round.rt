@@ -10,7 +10,7 @@ use vi_lines::{Script, Who};
 const DRIVERS: u8 = 8;
 
 /// The actors of a round, in the order of their turns: the drivers that have lines by number, the back ends in declared
-/// order, the device and, unless events are off, the reader of fault records. An error is want of memory.
+/// order, the device and, unless events are off, the reader of fault records. An error means out of memory.
 #[tactic(auto, unfolding(vi_model::specs::Rounds::actors))]
 pub fn actors(alloc: Global, script: &Script) -> Result<Vec<Who>, AllocError>
     ensures { IfOk result (λ v. v.items ≡ actors script.now) }
@@ -25,7 +25,7 @@ pub fn actors(alloc: Global, script: &Script) -> Result<Vec<Who>, AllocError>
     Ok(actors)
 }
 
-/// Adds the drivers that have lines. An error is want of memory.
+/// Adds the drivers that have lines. An error means out of memory.
 fn push_drivers(actors: &mut Vec<Who>, script: &Script) -> Result<(), AllocError>
     ensures { OnOk result (actors.new.items ≡ actors.old.items ++ drivers_of script.now) }
 {
@@ -37,7 +37,7 @@ fn push_drivers(actors: &mut Vec<Who>, script: &Script) -> Result<(), AllocError
     Ok(())
 }
 
-/// Adds the back ends. An error is want of memory.
+/// Adds the back ends. An error means out of memory.
 fn push_backs(actors: &mut Vec<Who>, script: &Script) -> Result<(), AllocError>
     ensures { OnOk result (actors.new.items ≡ actors.old.items ++ backs_of script.now) }
 {

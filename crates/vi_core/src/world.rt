@@ -129,7 +129,7 @@ impl World {
         are_drivers_finished(&self.drivers) && are_backs_finished(&self.backs)
     }
 
-    /// What the turns have come to. An error is want of memory.
+    /// What the turns have come to. An error means out of memory.
     pub fn outcome(self, alloc: Global) -> Result<Outcome, AllocError>
         ensures outcome { IfOk result (λ o. o ≡ outcome_of self.world) }
         ensures made { IfOk result IsWellMade }

@@ -39,7 +39,7 @@ impl Model for Device {
 
 impl Device {
     /// The device of this setup before the first request, with room for `maps` mappings in each of
-    /// 16 domains. An error is want of memory. No other call takes memory.
+    /// 16 domains. An error means out of memory. No other call takes memory.
     pub fn new(alloc: Global, setup: &Setup, maps: u32) -> Result<Device, AllocError>
         requires { IsSetup setup.now }
         ensures device { IfOk result (λ d. d ≡ record { dev = start_dev setup.now; maps = maps }) }

@@ -37,7 +37,7 @@ impl Model for Endpoints {
 }
 
 impl Endpoints {
-    /// These endpoints, in no domain. An error is want of memory.
+    /// These endpoints, in no domain. An error means out of memory.
     pub fn new(alloc: Global, endpoints: &[EndpointSetup]) -> Result<Endpoints, AllocError>
         requires few { length endpoints.now ≤ 16 }
         requires distinct { AreDistinct (map (λ e. e.id) endpoints.now) }

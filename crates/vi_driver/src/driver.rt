@@ -37,7 +37,7 @@ impl Model for Driver {
 }
 
 impl Driver {
-    /// The driver of this number before its first call, with copies of its lines. An error is want of memory.
+    /// The driver of this number before its first call, with copies of its lines. An error means out of memory.
     pub fn new(alloc: Global, script: &Script, number: u8) -> Result<Driver, AllocError>
         ensures { IfOk result (λ d. d ≡ own_driver script.now number no_stand) }
     {
@@ -170,7 +170,7 @@ impl Driver {
     }
 }
 
-/// Copies of the caller's lines. An error is want of memory.
+/// Copies of the caller's lines. An error means out of memory.
 fn lines_of(alloc: Global, script: &Script, caller: Caller) -> Result<Vec<OwnLine>, AllocError>
     ensures own { IfOk result (λ own. own.items ≡ lines_of script.now caller) }
     ensures few { IfOk result (λ own. length own.items < 2 ^ 32) }

@@ -32,7 +32,7 @@ impl Model for OwnLine {
 }
 
 impl OwnLine {
-    /// A copy of this line. An error is want of memory.
+    /// A copy of this line. An error means out of memory.
     pub fn of(alloc: Global, line: &Line) -> Result<OwnLine, AllocError>
         ensures { IfOk result (λ o. o ≡ line.now) }
     {

@@ -34,7 +34,7 @@ impl Model for Buffers {
 }
 
 impl Buffers {
-    /// So many buffers, all of them offered. An error is want of memory.
+    /// So many buffers, all of them offered. An error means out of memory.
     pub fn build(alloc: Global, buffers: u16) -> Result<Buffers, AllocError>
         requires { IsRingSize buffers }
         ensures { IfOk result (λ b. b ≡ record { buffers = buffers; records = [] }) }

@@ -39,7 +39,7 @@ impl Model for EventQueue {
 
 impl EventQueue {
     /// So many buffers, which the driver has offered, and room for so many records. No record was delivered or
-    /// dropped yet. An error is want of memory. Condition: there are 16, 32, 64, 128 or 256 buffers.
+    /// dropped yet. An error means out of memory. Condition: there are 16, 32, 64, 128 or 256 buffers.
     pub fn build(alloc: Global, buffers: u16, room: u32) -> Result<EventQueue, AllocError>
         requires { IsRingSize buffers }
         ensures { IfOk result (λ q. q ≡ record { buffers = buffers; events = no_events room }) }

@@ -30,7 +30,7 @@ impl Model for Grants {
 }
 
 impl Grants {
-    /// So many back ends with no grants, each with room for `each`. An error is want of memory.
+    /// So many back ends with no grants, each with room for `each`. An error means out of memory.
     pub fn with_room(alloc: Global, backs: u32, each: u32) -> Result<Grants, AllocError>
         ensures empty { IfOk result (λ grants. grants ≡ replicate backs (empty_row each)) }
         ensures rows { IfOk result (All IsRow) }

@@ -38,7 +38,7 @@ impl Model for Row {
 }
 
 impl Row {
-    /// No grants, with room for so many. An error is want of memory.
+    /// No grants, with room for so many. An error means out of memory.
     pub fn with_room(alloc: Global, spare: u32) -> Result<Row, AllocError>
         ensures empty { IfOk result (λ row. row ≡ empty_row spare) }
         ensures row { IfOk result IsRow }

@@ -47,7 +47,7 @@ impl Job {
         }
     }
 
-    /// The call of a driver's job, `None` for a transfer. An error is want of memory.
+    /// The call of a driver's job, `None` for a transfer. An error means out of memory.
     pub fn ask(&self, alloc: Global) -> Result<Option<Call>, AllocError>
         ensures { IfOk result (λ call. call ≡ driver_call self.now) }
     {
@@ -65,8 +65,8 @@ impl Job {
         }
     }
 
-    /// The access of a part, from 1, of an endpoint's transfer, `None` for a job of a driver. An error is
-    /// want of memory.
+    /// The access of a part, from 1, of an endpoint's transfer, `None` for a job of a driver. An error
+    /// means out of memory.
     pub fn access(
         &self,
         alloc: Global,

@@ -27,7 +27,7 @@ pub struct Line {
 
 impl Line {
     /// The call of a part of this line: the one part 0 for a driver, a part of the transfer from 1 on for a
-    /// back end. An error is want of memory.
+    /// back end. An error means out of memory.
     pub fn call(&self, alloc: Global, part: u32) -> Result<Option<Call>, AllocError>
         requires { TransfersWell self.now.job }
         ensures { IfOk result (λ call. call ≡ call_in self.now.caller part (Some self.now)) }

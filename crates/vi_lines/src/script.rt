@@ -35,7 +35,7 @@ impl Model for Script {
 }
 
 impl Script {
-    /// A script of these parts. Its lines are found by their caller from then on. An error is want of memory.
+    /// A script of these parts. Its lines are found by their caller from then on. An error means out of memory.
     pub fn new(
         alloc: Global,
         setup: Setup,
@@ -76,7 +76,7 @@ impl Script {
     /// The call of the caller's line of this number, counted from 1, and of its part: 0 for a driver, 1 up to
     /// the number of pages that the transfer touches for a back end. `None` where the script has no such
     /// call. The transfers of the script's lines have 1 to 65536 bytes, and their last addresses are at most
-    /// 2^64 - 1. An error is want of memory.
+    /// 2^64 - 1. An error means out of memory.
     pub fn call(
         &self,
         alloc: Global,

@@ -45,7 +45,7 @@ impl Model for Log {
 }
 
 impl Log {
-    /// No entries, with room for so many and for so many bytes of theirs. An error is want of memory.
+    /// No entries, with room for so many and for so many bytes of theirs. An error means out of memory.
     pub fn with_room(alloc: Global, entries: u32, bytes: u32) -> Result<Log, AllocError>
         ensures { IfOk result (λ log. log ≡ no_entries entries bytes) }
     {
@@ -92,7 +92,7 @@ impl Log {
         self.logged.is_empty()
     }
 
-    /// The ticket at this index, and a copy of its entry. An error is want of memory.
+    /// The ticket at this index, and a copy of its entry. An error means out of memory.
     pub fn get(&self, alloc: Global, index: usize) -> Result<(u64, Entry), AllocError>
         requires { index < length self.now.entries }
         ensures { IfOk result (λ r. slice_get self.now.entries index ≡ Some (record { ticket = r.0; entry = r.1 })) }
@@ -103,7 +103,7 @@ impl Log {
     }
 }
 
-// The entry that is kept so. An error is want of memory.
+// The entry that is kept so. An error means out of memory.
 fn copied(alloc: Global, bytes: &[u8], logged: &Logged) -> Result<Entry, AllocError>
     requires { EndsWithin (length bytes.now) logged.now }
     ensures { IfOk result (λ e. e ≡ (entry_in bytes.now logged.now).entry) }

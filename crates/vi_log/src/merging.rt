@@ -7,8 +7,8 @@ use std::alloc::{AllocError, Global};
 use vi_bytes::Bytes;
 use vi_history::{Caller, Entry, Kind, Mark};
 
-/// The entries of the logs by rising ticket, where the tickets are 0, 1, 2 and so on, each once. An error is
-/// want of memory.
+/// The entries of the logs by rising ticket, where the tickets are 0, 1, 2 and so on, each once. An error
+/// means out of memory.
 pub fn merge(alloc: Global, logs: &[Log]) -> Result<Vec<Entry>, AllocError>
     requires { (n : ℕ) × AreTicketed n logs.now }
     ensures { IfOk result (λ history. IsMerged logs.now history.items) }
@@ -20,7 +20,7 @@ pub fn merge(alloc: Global, logs: &[Log]) -> Result<Vec<Entry>, AllocError>
     Ok(history)
 }
 
-// Puts each entry of the log in its place. An error is want of memory.
+// Puts each entry of the log in its place. An error means out of memory.
 fn place_all(alloc: Global, history: &mut Vec<Entry>, log: &Log) -> Result<(), AllocError>
     ensures { IfOk result (λ _. history.new.items ≡ fold placed history.old.items log.now.entries) }
 {

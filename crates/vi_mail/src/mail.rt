@@ -44,7 +44,7 @@ impl Model for Mail {
 }
 
 impl Mail {
-    /// Empty lanes for so many back ends. An error is want of memory.
+    /// Empty lanes for so many back ends. An error means out of memory.
     pub fn build(alloc: Global, backs: u32, slots: u32) -> Result<Mail, AllocError>
         ensures { IfOk result (λ m. m ≡ record { rows = replicate backs no_lanes; slots = slots }) }
     {

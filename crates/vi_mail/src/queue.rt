@@ -30,7 +30,7 @@ impl Model for FrameQueue {
 }
 
 impl FrameQueue {
-    /// No frames, and room for `bound`. An error is want of memory.
+    /// No frames, and room for `bound`. An error means out of memory.
     pub fn build(alloc: Global, bound: usize) -> Result<FrameQueue, AllocError>
         ensures { IfOk result (λ q. q ≡ empty_queue bound) }
     {

@@ -44,7 +44,7 @@ impl Model for Row {
 }
 
 impl Row {
-    /// Empty lanes. An error is want of memory.
+    /// Empty lanes. An error means out of memory.
     pub fn build(alloc: Global, slots: u32) -> Result<Row, AllocError>
         ensures { IfOk result (λ r. r ≡ record { lanes = no_lanes; slots = slots }) }
     {

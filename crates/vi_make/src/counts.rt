@@ -10,7 +10,7 @@ use vi_history::{Entry, Kind, Outcome};
 
 /// The line `load N entries K ok S faults F sum X` and LF: N is the number of rounds, K that of the
 /// outcome's entries, S that of its Status entries with status 0, F that of its faults, and X is the
-/// sum of all bytes that were read. An error is want of memory.
+/// sum of all bytes that were read. An error means out of memory.
 pub fn summary(alloc: Global, rounds: u32, outcome: &Outcome) -> Result<Bytes, AllocError>
     requires { IsWellMade outcome.now }
     ensures written { IfOk result (λ line. line ≡ summary_line rounds outcome.now.entries) }

@@ -24,7 +24,7 @@ const SETUP: &str =
 ///   - `dJ unmap E A B after bE.Z`, where Z is 3 * R + 2;
 ///   - `bE read A 4 after dJ.U`, where U is 2 * R + 3.
 ///
-/// An error is want of memory.
+/// An error means out of memory.
 pub fn make(alloc: Global, rounds: u32) -> Result<Bytes, AllocError>
     requires some { 1 ≤ rounds }
     requires most { rounds ≤ MAX_ROUNDS }

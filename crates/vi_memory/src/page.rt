@@ -23,7 +23,7 @@ impl Model for Page {
 }
 
 impl Page {
-    /// A page of zeros. An error is want of memory.
+    /// A page of zeros. An error means out of memory.
     pub fn zero(alloc: Global) -> Result<Page, AllocError>
         ensures zeros { IfOk result (λ page. page ≡ replicate PAGE 0) }
         ensures whole { IfOk result (λ page. length page ≡ PAGE) }

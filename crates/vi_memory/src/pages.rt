@@ -5,7 +5,7 @@ ghost use Rattle.vi_bytes.specs.declared.span.TheConstants.{PAGE};
 use crate::Page;
 use std::alloc::{AllocError, Global};
 
-/// So many pages of zeros. An error is want of memory.
+/// So many pages of zeros. An error means out of memory.
 pub fn zero_pages(alloc: Global, count: u32) -> Result<Vec<Page>, AllocError>
     ensures { IfOk result (λ pages. pages.items ≡ replicate count (replicate PAGE 0)) }
 {

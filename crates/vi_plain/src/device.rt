@@ -48,7 +48,7 @@ impl Model for Device {
 }
 
 impl Device {
-    /// The setup's device, without a domain. An error is want of memory.
+    /// The setup's device, without a domain. An error means out of memory.
     pub fn new(alloc: Global, setup: &Setup) -> Result<Device, AllocError>
         requires { IsPlainSetup setup.now }
         ensures { IfOk result (λ d. d ≡ start_dev setup.now) }

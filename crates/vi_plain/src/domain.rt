@@ -118,7 +118,7 @@ impl Domain {
         self.mappings.iter().find(|m| m.span.contains(address))
     }
 
-    /// Adds a mapping. An error is want of memory, and changes nothing.
+    /// Adds a mapping. An error means out of memory, and changes nothing.
     pub fn map(&mut self, mapping: Mapping) -> Result<(), AllocError>
         requires { IsSound mapping }
         ensures ok { OnOk result (self.new ≡ record self.old { mappings = with_mapping mapping self.old.mappings }) }

@@ -33,7 +33,7 @@ impl Model for Endpoint {
 }
 
 impl Endpoint {
-    /// A declared endpoint, in no domain at first. An error is want of memory.
+    /// A declared endpoint, in no domain at first. An error means out of memory.
     pub fn declared(alloc: Global, setup: &EndpointSetup) -> Result<Endpoint, AllocError>
         requires { HasFewRegions setup.now }
         ensures { IfOk result (λ x. x ≡ unattached setup.now) }

@@ -26,7 +26,7 @@ impl Model for Page {
 }
 
 impl Page {
-    /// A page of zeros. An error is want of memory.
+    /// A page of zeros. An error means out of memory.
     pub fn zero(alloc: Global) -> Result<Page, AllocError>
         ensures { IfOk result (λ p. p ≡ zero_page) }
     {
@@ -34,7 +34,7 @@ impl Page {
         Ok(Page { bytes })
     }
 
-    /// A copy of `len` bytes from an offset on. An error is want of memory.
+    /// A copy of `len` bytes from an offset on. An error means out of memory.
     pub fn read(&self, alloc: Global, offset: usize, len: usize) -> Result<Bytes, AllocError>
         requires { offset + len ≤ 4096 }
         ensures bytes { IfOk result (λ b. b ≡ take len (drop offset self.now)) }
@@ -52,7 +52,7 @@ impl Page {
     }
 }
 
-/// So many bytes of zero. An error is want of memory.
+/// So many bytes of zero. An error means out of memory.
 pub fn zeros(alloc: Global, count: usize) -> Result<Vec<u8>, AllocError>
     ensures { IfOk result (λ v. v.items ≡ replicate count 0) }
 {

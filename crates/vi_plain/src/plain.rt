@@ -37,7 +37,7 @@ impl Model for Plain {
 
 impl Plain {
     /// The setup's device before the first call: no endpoint is in a domain, and the memory is zero. An
-    /// error is want of memory.
+    /// error means out of memory.
     #[tactic(auto, unfolding(vi_history::specs::Start::start))]
     pub fn new(alloc: Global, setup: &Setup) -> Result<Plain, AllocError>
         requires { IsPlainSetup setup.now }
@@ -52,7 +52,7 @@ impl Plain {
     }
 
     /// Answers a call, the one of this caller's line and part, and takes its effect. The entry's bytes are
-    /// those of its kind: 512 for `Probed`, 1 to 4096 for `Read`, and else none. An error is want of memory,
+    /// those of its kind: 512 for `Probed`, 1 to 4096 for `Read`, and else none. An error means out of memory,
     /// and changes nothing.
     pub fn step(
         &mut self,

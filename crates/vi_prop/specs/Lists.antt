@@ -10,7 +10,7 @@ use Rattle.vi_prop.specs.declared.refusal.PropFault.TheVariants.{Cut, Kind, OutO
 abbrev pub IsProperRegion : Region → Type 0
 IsProperRegion region = IsProper region.span
 
--- What an answer says that the properties are; want of memory says nothing of them. `regions` sees the list
+-- What an answer says that the properties are; out of memory says nothing of them. `regions` sees the list
 -- in a vector.
 abbrev pub answered : {X : Type 0} → (X → List Region) → Result X PropFault → Option Properties
 answered regions (Ok found) = Some (Regions (regions found))

@@ -73,7 +73,7 @@ fn read_regions(alloc: Global, bytes: &[u8]) -> Result<Vec<Region>, PropFault>
 /// The regions that the properties show, in order. Properties are read up to one of type 0 (NONE),
 /// or to where fewer than 4 bytes are left. Those of other types than 1 (RESV_MEM) are passed over,
 /// and so are the bytes of a value past its first 20. A subtype other than 1 (MSI) is read as
-/// RESERVED. An error is the first property at fault, or want of memory. There are fewer than 2^32
+/// RESERVED. An error is the first property at fault, or out of memory. There are fewer than 2^32
 /// - 1 bytes.
 pub fn decode(alloc: Global, bytes: &[u8]) -> Result<Vec<Region>, PropFault>
     requires { length bytes.now < 2 ^ 32 - 1 }

@@ -7,7 +7,7 @@ use std::error::Error;
 use std::fmt;
 
 /// Why properties were not read: what is wrong with the first property at fault, which begins at
-/// this offset in bytes, or want of memory.
+/// this offset in bytes, or out of memory.
 #[derive(Clone, Copy, Debug, PartialEq, Eq)]
 pub enum PropFault {
     /// The property's value passes the end of the bytes.

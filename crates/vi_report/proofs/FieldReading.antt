@@ -131,7 +131,7 @@ pub bytes_at-refused : (bytes digits : List ℕ) (fault : FromHexError) → digi
 unfolding bytes_at
 bytes_at-refused bytes digits fault front h = rw (sym front, h) refl
 
--- digits that are refused are no bytes, if not for want of memory
+-- digits that are refused are no bytes, unless memory is out
 pub refused : (fault : FromHexError) (bytes digits : List ℕ) → digits ≡ take_while is_lower_digit bytes → (fault ≡ hex.OutOfMemory) ⊎ (decode_of digits ≡ Err fault)
     → (refusal_of fault ≡ refusal.OutOfMemory) ⊎ ((refusal_of fault ≡ refusal.Unfit) × (bytes_at bytes ≡ None))
 refused fault bytes digits front (inl memory) = inl (ap refusal_of memory)

@@ -13,13 +13,13 @@ abbrev pub Finds : {T V : Type 0} → (T → V) → Option T → Option V → Ty
 Finds value (Some x) there = there ≡ Some (value x)
 Finds value None there = there ≡ None
 
--- The same of a reader that takes memory: it may also be refused for want of memory.
+-- The same of a reader that takes memory: it may also be refused because memory is out.
 abbrev pub Reads : {T V : Type 0} → (T → V) → Result T Refusal → Option V → Type 0
 Reads value (Ok x) there = there ≡ Some (value x)
 Reads value (Err refusal.Unfit) there = there ≡ None
 Reads value (Err refusal.OutOfMemory) there = Unit {0}
 
--- digits are refused as unfit, or for want of memory
+-- digits are refused as unfit, or because memory is out
 abbrev pub refusal_of : FromHexError → Refusal
 refusal_of (digits.InvalidHexCharacter c index) = refusal.Unfit
 refusal_of digits.OddLength = refusal.Unfit

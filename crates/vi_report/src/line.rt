@@ -18,7 +18,7 @@ fn push_hex(alloc: Global, out: &mut String, bytes: &[u8]) -> Result<(), AllocEr
 }
 
 /// Adds a call's name: `dJ.L` for a driver's line, `bE.L.P` for a part of a back end's line. An error
-/// is want of memory.
+/// means out of memory.
 pub fn push_name(out: &mut String, mark: Mark) -> Result<(), AllocError>
     ensures written { OnOk result (Adds out.old out.new
         (name_text mark.caller mark.line mark.part)) }
@@ -31,7 +31,7 @@ pub fn push_name(out: &mut String, mark: Mark) -> Result<(), AllocError>
     }
 }
 
-/// Adds an answer by its kind, as in an entry's line. An error is want of memory.
+/// Adds an answer by its kind, as in an entry's line. An error means out of memory.
 pub fn push_answer(alloc: Global, out: &mut String, entry: &Entry) -> Result<(), AllocError>
     ensures written { OnOk result (Adds out.old out.new
         (answer_text entry.now.mark.kind entry.now.mark.code entry.now.bytes)) }

@@ -21,7 +21,7 @@ use vi_history::Outcome;
 /// - for each delivered record the number of its entry and its 24 bytes as lower-case digits;
 /// - `end`.
 ///
-/// An error is want of memory.
+/// An error means out of memory.
 #[tactic(auto, unfolding(crate::specs::Texts::text))]
 pub fn text(alloc: Global, outcome: &Outcome) -> Result<Bytes, AllocError>
     requires { IsWellMade outcome.now }

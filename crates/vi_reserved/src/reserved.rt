@@ -27,7 +27,7 @@ impl Model for Reserved {
 }
 
 impl Reserved {
-    /// The regions of these endpoints. An error is want of memory.
+    /// The regions of these endpoints. An error means out of memory.
     pub fn new(alloc: Global, endpoints: &[EndpointSetup]) -> Result<Reserved, AllocError>
         requires { All (λ e. AreProper e.regions) endpoints.now }
         ensures regions { IfOk result (λ reserved. reserved ≡ regions_of endpoints.now) }

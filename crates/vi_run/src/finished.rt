@@ -41,7 +41,7 @@ impl Finished {
     }
 
     /// What the run has come to: the entries of all logs by rising ticket, the fault records that were delivered and how many
-    /// were dropped. Every line is finished. An error is want of memory.
+    /// were dropped. Every line is finished. An error means out of memory.
     pub fn outcome(&self, alloc: Global) -> Result<Outcome, AllocError>
         ensures outcome { IfOk result (λ o. CameTo self.now o) }
         ensures made { IfOk result IsWellMade }

@@ -46,7 +46,7 @@ impl Model for Opened {
 
 impl Opened {
     /// A run of the script in which nothing has happened, with all room that it needs: for mappings, grants, frames, and for
-    /// each actor's entries with their bytes. An error is want of memory.
+    /// each actor's entries with their bytes. An error means out of memory.
     pub fn build(alloc: Global, script: Script) -> Result<Opened, AllocError>
         requires { IsPlayable script }
         ensures { IfOk result (λ o. o.board.script ≡ script) }
@@ -64,7 +64,7 @@ impl Opened {
     }
 }
 
-// A run of the script in which nothing has happened. An error is want of memory.
+// A run of the script in which nothing has happened. An error means out of memory.
 fn set_up(alloc: Global, script: &Script) -> Result<Opened, AllocError>
     requires { IsPlayable script.now }
     ensures { IfOk result (λ o. o.board.script ≡ script.now) }
@@ -81,7 +81,7 @@ fn set_up(alloc: Global, script: &Script) -> Result<Opened, AllocError>
     })
 }
 
-// The shared object of the script, and its first pass. An error is want of memory.
+// The shared object of the script, and its first pass. An error means out of memory.
 fn shared_of(alloc: Global, script: &Script) -> Result<(Shared, Pass), AllocError>
     requires { IsPlayable script.now }
     ensures own { IfOk result (λ r. (r.1.table ≡ r.0.table) × (r.0.script ≡ script.now)) }
@@ -94,7 +94,7 @@ fn shared_of(alloc: Global, script: &Script) -> Result<(Shared, Pass), AllocErro
     Shared::build(alloc, script, control, pages, log)
 }
 
-// The actors of a round in order, each with a pass that is split from the first one. An error is want of memory.
+// The actors of a round in order, each with a pass that is split from the first one. An error means out of memory.
 fn actors_of(
     alloc: Global,
     shared: &Shared,
@@ -121,7 +121,7 @@ fn actors_of(
     Ok(all)
 }
 
-// What an actor of the script begins with. An error is want of memory.
+// What an actor of the script begins with. An error means out of memory.
 fn role_of(alloc: Global, script: &Script, who: Who) -> Result<Role, AllocError>
     requires playable { IsPlayable script.now }
     requires actor { (number : ℕ) × (who_of script.now number ≡ Some who) }

@@ -284,7 +284,7 @@ impl Draft {
         names.iter().all(|name| self.awaits_well(caller, *name))
     }
 
-    /// What was said and one more statement, which is taken. An error is want of memory.
+    /// What was said and one more statement, which is taken. An error means out of memory.
     pub fn with(self, alloc: Global, statement: Parsed) -> Result<Draft, AllocError>
         requires names { HaveNames statement }
         requires within { is_within self (stated statement) ≡ true }
@@ -382,7 +382,7 @@ impl Draft {
         })
     }
 
-    /// The script of what was said. An error is want of memory.
+    /// The script of what was said. An error means out of memory.
     pub fn into_script(self, alloc: Global) -> Result<Script, AllocError>
         ensures { IfOk result (λ script. script ≡ script_of self) }
     {
@@ -525,7 +525,7 @@ impl JobNumbers {
     }
 }
 
-/// The endpoints, the one of this id with one more region. An error is want of memory.
+/// The endpoints, the one of this id with one more region. An error means out of memory.
 fn reserved(
     alloc: Global,
     endpoints: Vec<EndpointSetup>,
@@ -541,7 +541,7 @@ fn reserved(
     Ok(more)
 }
 
-/// The endpoint, with one more region if it has this id. An error is want of memory.
+/// The endpoint, with one more region if it has this id. An error means out of memory.
 fn reserved_if(
     endpoint: EndpointSetup,
     id: u32,
@@ -560,7 +560,7 @@ fn reserved_if(
     })
 }
 
-/// Adds the turns of these names behind the others. An error is want of memory.
+/// Adds the turns of these names behind the others. An error means out of memory.
 fn add_turns(turns: &mut Vec<Who>, names: &[TurnName]) -> Result<(), AllocError>
     ensures { OnOk result (turns.new.items ≡ turns.old.items ++ map turn_kept names.now) }
 {
@@ -570,7 +570,7 @@ fn add_turns(turns: &mut Vec<Who>, names: &[TurnName]) -> Result<(), AllocError>
     Ok(())
 }
 
-/// The lines of these names. An error is want of memory.
+/// The lines of these names. An error means out of memory.
 fn awaited_lines(alloc: Global, names: &[AwaitedName]) -> Result<Items<Await>, AllocError>
     ensures { IfOk result (λ awaits. awaits ≡ map await_kept names.now) }
 {
@@ -581,7 +581,7 @@ fn awaited_lines(alloc: Global, names: &[AwaitedName]) -> Result<Items<Await>, A
     Ok(Items::from_vec(awaits))
 }
 
-/// An actor line that is taken. An error is want of memory.
+/// An actor line that is taken. An error means out of memory.
 fn line_of(alloc: Global, line: ActorLine) -> Result<Line, AllocError>
     requires names { HasNames line }
     requires driver { is_driver (named line.caller) ≡ true }

@@ -162,7 +162,7 @@ impl Tally {
         calls_in(&with_line(self.batches, caller, add))
     }
 
-    /// These lines and one more. An error is want of memory.
+    /// These lines and one more. An error means out of memory.
     pub fn with(self, alloc: Global, line: Line) -> Result<Tally, AllocError>
         requires room { length self < 10000 }
         requires within { bytes_in self + transferred line.job ≤ 16777216 }

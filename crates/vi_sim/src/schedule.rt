@@ -15,7 +15,7 @@ use vi_history::Outcome;
 use vi_lines::{Script, Who};
 
 /// The outcome of a script's run: first its own turns, then `moves` turns of actors that the generator draws from
-/// `generator_seed` on, then rounds of one turn of each actor until all lines are finished. An error is want of memory.
+/// `generator_seed` on, then rounds of one turn of each actor until all lines are finished. An error means out of memory.
 #[tactic(auto, using(crate::proofs::Simulated::simulated_finished, crate::proofs::Simulated::simulated_ordered, crate::proofs::Simulated::simulated_legal, crate::proofs::Simulated::simulated_records))]
 pub fn sim(
     alloc: Global,

@@ -242,7 +242,7 @@ fn run_load<R: Threads + Wait + Sync, K: Sink, G: Gate + Sync>(
     }
 }
 
-/// A run of the script, and its report. An error is want of memory.
+/// A run of the script, and its report. An error means out of memory.
 fn reported<R: Threads + Wait + Sync, G: Gate + Sync>(
     rt: &R,
     alloc: Global,
@@ -260,7 +260,7 @@ fn reported<R: Threads + Wait + Sync, G: Gate + Sync>(
     Ok((finished, text))
 }
 
-/// The report of a run. An error is want of memory.
+/// The report of a run. An error means out of memory.
 fn report_of(alloc: Global, finished: &Finished) -> Result<Bytes, AllocError>
     ensures { IfOk result (λ text. ReportsRun finished.now.last.script finished.now text) }
 {
@@ -269,7 +269,7 @@ fn report_of(alloc: Global, finished: &Finished) -> Result<Bytes, AllocError>
     Ok(text)
 }
 
-/// A run of the load script of so many rounds, and its summary. An error is want of memory.
+/// A run of the load script of so many rounds, and its summary. An error means out of memory.
 fn summarized<R: Threads + Wait + Sync, G: Gate + Sync>(
     rt: &R,
     alloc: Global,
@@ -286,7 +286,7 @@ fn summarized<R: Threads + Wait + Sync, G: Gate + Sync>(
     Ok((finished, line))
 }
 
-/// The load script of so many rounds. An error is want of memory.
+/// The load script of so many rounds. An error means out of memory.
 fn load_script(alloc: Global, rounds: u32) -> Result<Script, AllocError>
     requires { (1 ≤ rounds) × (rounds ≤ 400) }
     ensures script { IfOk result (λ s. texts.script (load_script rounds) ≡ Ok s) }
@@ -302,7 +302,7 @@ fn load_script(alloc: Global, rounds: u32) -> Result<Script, AllocError>
     }
 }
 
-/// The summary of a run of a load script. An error is want of memory.
+/// The summary of a run of a load script. An error means out of memory.
 fn summary_of(alloc: Global, rounds: u32, finished: &Finished) -> Result<Bytes, AllocError>
     ensures { IfOk result (λ line. SumsRun rounds finished.now.last.script finished.now line) }
 {
@@ -311,7 +311,7 @@ fn summary_of(alloc: Global, rounds: u32, finished: &Finished) -> Result<Bytes, 
     Ok(line)
 }
 
-/// What a run came to. An error is want of memory.
+/// What a run came to. An error means out of memory.
 fn outcome_of(alloc: Global, finished: &Finished) -> Result<Outcome, AllocError>
     ensures { IfOk result (λ o. RanTo finished.now.last.script finished.now o) }
 {
@@ -319,7 +319,7 @@ fn outcome_of(alloc: Global, finished: &Finished) -> Result<Outcome, AllocError>
     Ok(outcome)
 }
 
-/// A run of the script on so many workers. An error is want of memory.
+/// A run of the script on so many workers. An error means out of memory.
 fn ran<R: Threads + Wait + Sync, G: Gate + Sync>(
     rt: &R,
     alloc: Global,

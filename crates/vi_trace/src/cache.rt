@@ -11,7 +11,7 @@ use std::alloc::AllocError;
 use std::collections::BTreeMap;
 use vi_bytes::{Need, Span, page_of};
 
-/// The pages of an Update are kept, each with its permission. An error is want of memory.
+/// The pages of an Update are kept, each with its permission. An error means out of memory.
 pub fn keep(
     cache: &mut BTreeMap<u64, u8>,
     page: u64,

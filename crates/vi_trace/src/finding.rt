@@ -40,7 +40,7 @@ pub enum Finding {
 }
 
 impl Finding {
-    /// `held`, or `breaks L RULE`, with LF. An error is want of memory.
+    /// `held`, or `breaks L RULE`, with LF. An error means out of memory.
     #[tactic(auto, unfolding(crate::specs::Texts::finding_text))]
     pub fn text(&self, alloc: Global) -> Result<Bytes, AllocError>
         ensures { IfOk result (λ text. text ≡ finding_text self.now) }

@@ -7,7 +7,7 @@ use crate::state::State;
 use crate::trace::Trace;
 use std::alloc::{AllocError, Global};
 
-/// The first line at which a rule is broken, and its first rule, or that the trace holds. An error is want of memory.
+/// The first line at which a rule is broken, and its first rule, or that the trace holds. An error means out of memory.
 pub fn judge(alloc: Global, trace: &Trace) -> Result<Finding, AllocError>
     ensures { IfOk result (λ f. Judges nothing_known trace.now f) }
 {

@@ -90,7 +90,7 @@ fn add(alloc: Global, said: &mut Vec<TraceLine>, number: u32, line: &[u8]) -> Re
     Ok(())
 }
 
-/// What a line of these words records; `None` where they have no form of a line. An error is want of memory.
+/// What a line of these words records; `None` where they have no form of a line. An error means out of memory.
 #[tactic(auto, unfolding(crate::specs::Traces::event_of))]
 fn event(alloc: Global, mut words: Words) -> Result<Option<Event>, AllocError>
     ensures { IfOk result (λ event. event ≡ event_of words.entry) }

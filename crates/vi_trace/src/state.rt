@@ -35,7 +35,7 @@ impl State {
         }
     }
 
-    /// The rule that the event breaks, or `None` where it breaks none and is taken. An error is want of memory.
+    /// The rule that the event breaks, or `None` where it breaks none and is taken. An error means out of memory.
     pub fn take(&mut self, event: &Event) -> Result<Option<Rule>, AllocError>
         ensures { IfOk result (λ broken. (known : Known) → Holds self.old known → Steps known event.now self.new broken) }
     {

@@ -21,7 +21,7 @@ impl Model for ControlBox {
 }
 
 impl ControlBox {
-    /// A block of its own for the control. An error is want of memory.
+    /// A block of its own for the control. An error means out of memory.
     pub(crate) fn build(alloc: Global, control: Control) -> Result<ControlBox, AllocError>
         ensures { IfOk result (λ b. b ≡ control) }
     {

@@ -16,7 +16,7 @@ use vi_control::Control;
 use vi_lines::Script;
 use vi_memory::Page;
 
-// So many words of 0. An error is want of memory.
+// So many words of 0. An error means out of memory.
 fn zeros(alloc: Global, count: usize) -> Result<Vec<u64>, AllocError>
     ensures { IfOk result (λ words. words.items ≡ replicate count 0) }
 {
@@ -43,7 +43,7 @@ pub(crate) fn filled(
     Ok((slots, room))
 }
 
-/// A table with so many words of 0 and these slots, and its first seat. An error is want of memory.
+/// A table with so many words of 0 and these slots, and its first seat. An error means out of memory.
 pub(crate) fn laid(
     alloc: Global,
     script: &Script,

@@ -49,7 +49,7 @@ impl Model for Ring {
 
 impl Ring {
     /// An empty ring of `n` descriptors, with buffers of `read` and `write` bytes for the readable
-    /// and the writable part of a chain. An error is want of memory, which no later call takes.
+    /// and the writable part of a chain. An error means out of memory, which no later call takes.
     pub fn build(alloc: Global, n: u16, read: u32, write: u32) -> Result<Ring, AllocError>
         requires size { IsRingSize n }
         requires read { read ≤ 1024 }

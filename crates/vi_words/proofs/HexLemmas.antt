@@ -87,7 +87,7 @@ unfolding hex_of
 hex_of-nil [] h = refl
 hex_of-nil (b ∷ bs) h = let e = eqb-true (length (b ∷ bs)) 0 (sym h) in absurd (omega arith)
 
--- what isn't want of memory is no HEX
+-- what isn't refused because memory is out is no HEX
 pub hex_of-none : (word : List ℕ) (fault : FromHexError) → false ≡ (length word == 0) → fault ≢ hex.OutOfMemory → (fault ≡ hex.OutOfMemory) ⊎ (decode_of word ≡ Err fault) → hex_of word ≡ None
 hex_of-none word fault some other (inl memory) = absurd (other memory)
 hex_of-none word fault some other (inr refused) = hex_of-refused word fault some refused

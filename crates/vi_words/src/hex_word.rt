@@ -8,7 +8,7 @@ use std::alloc::{AllocError, Global};
 use vi_bytes::Bytes;
 
 /// The bytes that a word spells by an even number of hexadecimal digits in either case, at least two;
-/// `None` where it spells none. An error is want of memory.
+/// `None` where it spells none. An error means out of memory.
 pub fn hex_bytes(alloc: Global, word: &[u8]) -> Result<Option<Bytes>, AllocError>
     ensures { IfOk result (λ bytes. bytes ≡ hex_of word.now) }
 {

@@ -68,7 +68,7 @@ fn map(domains: &mut [Domain], id: u32, mapping: Mapping) -> Result<(), AllocErr
 }
 
 impl Device {
-    /// Takes the effect of a request with this status: a refused one has none. An error is want of memory,
+    /// Takes the effect of a request with this status: a refused one has none. An error means out of memory,
     /// and changes nothing.
     #[tactic(auto, unfolding(vi_history::specs::Effects::commit))]
     pub fn commit(&mut self, alloc: Global, request: &Request, code: u8) -> Result<(), AllocError>

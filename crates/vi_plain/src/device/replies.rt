@@ -53,7 +53,7 @@ fn malformed(alloc: Global, is_probe: bool) -> Result<Answer, AllocError>
 }
 
 impl Device {
-    /// Answers a request and takes its effect. An error is want of memory, and changes nothing.
+    /// Answers a request and takes its effect. An error means out of memory, and changes nothing.
     pub fn ask(&mut self, alloc: Global, request: &Request) -> Result<Answer, AllocError>
         ensures answer { IfOk result (λ a. a ≡ request_answer self.old request.now) }
         ensures ok { OnOk result (self.new ≡ commit self.old request.now) }
