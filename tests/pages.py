@@ -78,6 +78,8 @@ def main():
         ask(name, "a line of its first page is longer than 100", all(len(line) <= 96 for line in lines))
         if name.startswith("tests_"):
             continue
+        # `rt` takes a crate that has this word anywhere for one with tests.
+        ask(name, "its first page has `#[test]`", not any("#[test]" in line for line in lines))
         ask(name, "its first page has no limits", "# Limits" in lines)
         found = blocks(lines)
         is_laws = "# How it is used" in lines

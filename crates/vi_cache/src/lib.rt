@@ -19,8 +19,8 @@
 //!     let dropped = cache.drop_span(&ALL);
 //!     (dropped, cache.peek(15))
 //! }
-//!
-//! #[test]
+//! ```
+//! ```
 //! fn a_span_removes_whole_leases(rt: HostRuntime) {
 //!     let mut cache = Cache::new(64);
 //!     assert_eq!(rt; four_between(&mut cache), 1);

@@ -21,8 +21,8 @@
 //! {
 //!     Ok(counted(&sim(alloc, script, draw, moves)?))
 //! }
-//!
-//! #[test]
+//! ```
+//! ```
 //! fn a_read_comes_to_its_end(rt: HostRuntime) -> Result<(), Fail> {
 //!     let script = script_of(rt.alloc(), READ)?;
 //!     assert_eq!(rt; simulated(rt.alloc(), script, 42, 20)?, (3, 0, 0));
