@@ -1,11 +1,12 @@
 -- What a search finds in a part of a list.
-use Rattle.std.proofs.Common.{◌≡◌, ℕ, suc, ◌-◌, ◌<◌, ◌≤◌, Bool, true, false, cond, not, List, [], ◌∷◌, Some, None, is_some, length, get_or, take, drop, ◌++◌, refl, sym, ap, ◌∙◌, subst, arith}
+use Rattle.std.proofs.Common.{◌≡◌, ℕ, suc, ◌-◌, ◌<◌, ◌≤◌, Bool, true, false, cond, not, nat_lt, List, [], ◌∷◌, Some, None, is_some, length, get_or, take, drop, ◌++◌, refl, sym, ap, ◌∙◌, subst, arith}
 use Rattle.std.specs.List.{filter, find, count_by}
 use Rattle.std.proofs.Math.Seq.{take-suc, drop-cons, length-take-le}
 use Rattle.std.proofs.Math.ListN.{get_or-append}
 use Rattle.std.proofs.lemmas.List.{append_assoc, get_or-take}
 use Rattle.std.proofs.lemmas.List.Sums.{length-filter}
 use Rattle.std.proofs.lemmas.List.Filters.{length-filter_both}
+use Rattle.std.proofs.lemmas.Bool.Decides.{nat_tests}
 
 -- an element that passes is found from its place on
 pub find-drop_here : {X : Type 0} (p : X → Bool) (xs : List X) (i : ℕ) (d : X) → i < length xs → p (get_or xs i d) ≡ true → find p (drop i xs) ≡ Some (get_or xs i d)
@@ -45,6 +46,24 @@ length-filter_not-lt {X} p (x ∷ xs) h = go (p x) h (length-filter-le (λ y. no
   go : (b : Bool) → is_some (cond b (Some x) (find p xs)) ≡ true → length (filter (λ y. not (p y)) xs) ≤ length xs → (is_some (find p xs) ≡ true → length (filter (λ y. not (p y)) xs) < length xs) → length (cond (not b) (x ∷ filter (λ y. not (p y)) xs) (filter (λ y. not (p y)) xs)) < suc (length xs)
   go true found le rest = omega arith
   go false found le rest = let h : length (filter (λ y. not (p y)) xs) < length xs = rest found in omega arith
+
+-- and as many where it finds none
+length-filter_not-same : {X : Type 0} (p : X → Bool) (xs : List X) → is_some (find p xs) ≡ false → length (filter (λ x. not (p x)) xs) ≡ length xs
+length-filter_not-same p [] h = refl
+length-filter_not-same {X} p (x ∷ xs) h = go (p x) h (length-filter_not-same p xs) where
+  go : (b : Bool) → is_some (cond b (Some x) (find p xs)) ≡ false → (is_some (find p xs) ≡ false → length (filter (λ y. not (p y)) xs) ≡ length xs) → length (cond (not b) (x ∷ filter (λ y. not (p y)) xs) (filter (λ y. not (p y)) xs)) ≡ suc (length xs)
+  go true none rest = cc
+  go false none rest = let h : length (filter (λ y. not (p y)) xs) ≡ length xs = rest none in omega arith
+
+-- so the lengths tell whether it finds one
+pub finds-from_lengths : {X : Type 0} (p : X → Bool) (xs ys : List X) (had left : ℕ) → had ≡ length xs → left ≡ length ys → ys ≡ filter (λ x. not (p x)) xs → nat_lt left had ≡ is_some (find p xs)
+finds-from_lengths {X} p xs ys had left at_first at_last rest = sym (go (is_some (find p xs)) refl) where
+  kept : length ys ≡ length (filter (λ x. not (p x)) xs)
+  kept = ap (λ (zs : List X). length zs) rest
+
+  go : (b : Bool) → is_some (find p xs) ≡ b → b ≡ nat_lt left had
+  go true e = let lt : left < had = omega (arith, kept, length-filter_not-lt p xs e) in grind (arith, nat_tests)
+  go false e = let le : had ≤ left = omega (arith, kept, length-filter_not-same p xs e) in grind (arith, nat_tests)
 
 -- a filter from the back on keeps the element below the place, where it passes
 pub filter-step : {X : Type 0} (p : X → Bool) (xs ys : List X) (at n : ℕ) (x : X) → at ≡ suc n → n < length xs → ys ≡ take at xs ++ filter p (drop at xs) → x ≡ get_or ys n x → p x ≡ true → ys ≡ take n xs ++ filter p (drop n xs)

@@ -62,8 +62,8 @@ impl Row {
         ensures granted { self.new ≡ granted asked lease self.old }
         ensures row { IsRow self.new }
     {
-        self.spare = room_left(self.spare, has_grant(&self.grants, asked));
-        leave_others(&mut self.grants, asked);
+        let had = leave_others(&mut self.grants, asked);
+        self.spare = room_left(self.spare, had);
         self.grants.push_reserved(Grant { asked, lease });
     }
 
@@ -129,12 +129,16 @@ fn any_meets(grants: &[Grant], span: &Span) -> bool
     false
 }
 
-fn leave_others(grants: &mut Vec<Grant>, asked: u64)
+// Takes out the grant for the page, and answers whether there was one. The row is walked once, as it is long.
+fn leave_others(grants: &mut Vec<Grant>, asked: u64) -> bool
+    ensures had { result ≡ is_some (grant_of asked grants.old.items) }
     ensures items { grants.new.items ≡ others asked grants.old.items }
     ensures fewer { vec_len grants.new ≤ vec_len grants.old }
     ensures capacity { vec_capacity grants.new ≡ vec_capacity grants.old }
 {
+    let before = grants.len();
     grants.retain(|grant| grant.asked != asked);
+    grants.len() < before
 }
 
 fn leave_unmet(grants: &mut Vec<Grant>, span: &Span)

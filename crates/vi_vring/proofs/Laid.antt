@@ -1,5 +1,5 @@
 -- A chain that is laid in the descriptor table is shown.
-use Rattle.std.proofs.Common.{◌≡◌, ℕ, ◌+◌, ◌-◌, ◌*◌, ◌^◌, ◌<◌, ◌≤◌, Bool, true, false, not, ◌&&◌, List, [], ◌∷◌, ◌++◌, length, take, drop, Option, Some, None, Result, Ok, Err, refl, ap, sym, ◌∙◌, arith}
+use Rattle.std.proofs.Common.{◌≡◌, ℕ, ◌+◌, ◌-◌, ◌*◌, ◌^◌, ◌<◌, ◌≤◌, Bool, true, false, not, ◌&&◌, List, [], ◌∷◌, ◌++◌, length, take, drop, Option, Some, None, Result, Ok, refl, ap, sym, ◌∙◌, arith}
 use Rattle.std.specs.Prelude.{if◌then◌else◌, nat_lt, bit_and, ◌==◌}
 use Rattle.std.proofs.Math.Nat.{mul-le-mul_left}
 use Rattle.std.proofs.lemmas.Bool.{le-ltb, or_from}
@@ -9,18 +9,17 @@ use Rattle.byteorder.specs.Endian.{little_bytes}
 use Rattle.byteorder.specs.Numbers.{little_from-take, little_number-reads_back}
 use Rattle.vi_bytes.specs.Fields.{field}
 use Rattle.vi_vring.specs.declared.chain.Break.{Break}
-use Rattle.vi_vring.specs.declared.chain.Break.TheVariants.{Indirect, Mixed, Memory}
 use Rattle.vi_vring.specs.declared.note.Note.{Note}
 use Rattle.vi_vring.specs.declared.walking.Piece.{Piece}
 use Rattle.vi_vring.specs.declared.walking.Descriptor.{Descriptor}
 use Rattle.vi_vring.specs.Layout.{descriptor_at, buffer_at, area_length}
 use Rattle.vi_vring.specs.Writes.{bytes_at}
-use Rattle.vi_vring.specs.Shown.{has_flag, piece_at, next_at, is_mixed, passes_memory, read_total, write_total, described, walked, shown}
+use Rattle.vi_vring.specs.Shown.{has_flag, piece_at, next_at, is_mixed, passes_memory, read_total, write_total, totals_of, described, walked, shown}
 use Rattle.vi_vring.specs.Parts.{readable_bytes}
 use Rattle.vi_vring.specs.Driver.{descriptor_bytes, readable_flags}
 use Rattle.vi_vring.specs.Notes.{is_double}
 use Rattle.vi_vring.specs.Tied.{IsLaid}
-use Rattle.vi_vring.proofs.Walks.{shown_start, walked_end, walked_next}
+use Rattle.vi_vring.proofs.Walks.{shown_start, walked_end, walked_next, cascade}
 
 -- bytes of bytes
 pub bytes_within : (at i k m : ℕ) (area : List ℕ) → i + k ≤ m → bytes_at i k (bytes_at at m area) ≡ bytes_at (at + i) k area
@@ -59,26 +58,19 @@ module _ (at : ℕ) (area : List ℕ) (address len flags next : ℕ) (e : bytes_
 abbrev described_as : Piece → Option ℕ → Descriptor
 described_as p o = record { piece = p; next = o }
 
-cascade : (indirect mixed memory : Bool) (d : Descriptor) → indirect ≡ false → mixed ≡ false → memory ≡ false
-    → (if indirect then Err Indirect else if mixed then Err Mixed else if memory then Err Memory else Ok d) ≡ Ok d
-cascade true m y d = λ p q r. absurd cc
-cascade false true y d = λ p q r. absurd cc
-cascade false false true d = λ p q r. absurd cc
-cascade false false false d = λ p q r. refl
-
 -- a descriptor with these fields, which breaks nothing
 described_ok : (area : List ℕ) (d : ℕ) (before : List Piece) (a l f x : ℕ) (w : Bool) (next : Option ℕ)
     → field (descriptor_at d) 8 area ≡ a → field (descriptor_at d + 8) 4 area ≡ l → field (descriptor_at d + 12) 2 area ≡ f → field (descriptor_at d + 14) 2 area ≡ x
     → not (bit_and f 4 == 0) ≡ false → not (bit_and f 2 == 0) ≡ w → (if not (bit_and f 1 == 0) then Some x else None) ≡ next
-    → is_mixed (record { address = a; len = l; writes = w }) before ≡ false → passes_memory area (record { address = a; len = l; writes = w }) before ≡ false
-    → Ok (record { piece = record { address = a; len = l; writes = w }; next = next }) ≡ described area d before
+    → is_mixed (record { address = a; len = l; writes = w }) (totals_of before) ≡ false → passes_memory area (record { address = a; len = l; writes = w }) (totals_of before) ≡ false
+    → Ok (record { piece = record { address = a; len = l; writes = w }; next = next }) ≡ described area d (totals_of before)
 described_ok area d before a l f x w next ea el ef ex g4 gw gn mixed memory =
     let piece : piece_at d area ≡ record { address = a; len = l; writes = w } = rw (ea, el, ef, gw) refl in
     let goes : next_at d area ≡ next = rw (ef, ex) gn in
     let indirect : has_flag 4 d area ≡ false = rw ef g4 in
     ap (λ p. Ok (described_as p next)) (sym piece) ∙ ap (λ o. Ok (described_as (piece_at d area) o)) (sym goes)
-    ∙ sym (cascade (has_flag 4 d area) (is_mixed (piece_at d area) before) (passes_memory area (piece_at d area) before) (described_as (piece_at d area) (next_at d area)) indirect
-    (ap (λ p. is_mixed p before) piece ∙ mixed) (ap (λ p. passes_memory area p before) piece ∙ memory))
+    ∙ sym (cascade (has_flag 4 d area) (is_mixed (piece_at d area) (totals_of before)) (passes_memory area (piece_at d area) (totals_of before)) (described_as (piece_at d area) (next_at d area)) indirect
+    (ap (λ p. is_mixed p (totals_of before)) piece ∙ mixed) (ap (λ p. passes_memory area p (totals_of before)) piece ∙ memory))
 
 -- the pieces of a chain
 abbrev pub readable_piece : ℕ → ℕ → Note → Piece
@@ -134,7 +126,7 @@ buffer_small n room d p q lt =
     omega (arith, h, p, q)
 
 module _ (n room : ℕ) (area : List ℕ) (note : Note) (t : IsTable n room (length area)) (head : note.head < n) (tail : note.tail < n) (reads : note.read ≤ room) (writes : note.write ≤ room) (laid : IsLaid n room area note) where
-  described_readable : nat_lt 0 note.read ≡ true → Ok (record { piece = readable_piece n room note; next = if nat_lt 0 note.write then Some note.tail else None }) ≡ described area note.head []
+  described_readable : nat_lt 0 note.read ≡ true → Ok (record { piece = readable_piece n room note; next = if nat_lt 0 note.write then Some note.tail else None }) ≡ described area note.head (totals_of [])
   described_readable some =
       let e = laid.readable some in
       let a = buffer_at n room note.head in
@@ -148,7 +140,7 @@ module _ (n room : ℕ) (area : List ℕ) (note : Note) (t : IsTable n room (len
       (no_indirect (nat_lt 0 note.write)) (no_write (nat_lt 0 note.write)) (next_flag (nat_lt 0 note.write) note.tail) refl
       (or_from (nat_lt (length area) (a + note.read)) (nat_lt 1024 (0 + note.read)) (le-ltb (length area) (a + note.read) (omega (arith, end, reads))) (le-ltb 1024 (0 + note.read) (omega (arith, reads, t.small))))
 
-  described_writable : (before : List Piece) → write_total before ≡ 0 → nat_lt 0 note.write ≡ true → Ok (record { piece = writable_piece n room note; next = None }) ≡ described area note.tail before
+  described_writable : (before : List Piece) → write_total before ≡ 0 → nat_lt 0 note.write ≡ true → Ok (record { piece = writable_piece n room note; next = None }) ≡ described area note.tail (totals_of before)
   described_writable before none some =
       let e = laid.writable some in
       let a = buffer_at n room note.tail in
@@ -169,13 +161,13 @@ module _ (n room : ℕ) (area : List ℕ) (note : Note) (t : IsTable n room (len
 
       go : (b c : Bool) → nat_lt 0 note.read ≡ b → nat_lt 0 note.write ≡ c → shown n area note.head ≡ Ok (pieces_by b c (readable_piece n room note) (writable_piece n room note))
       go true true p q =
-          begin (walked_next n area 0 note.head [] [] (omega (arith, t.some)) head refl (record { piece = readable_piece n room note; next = if nat_lt 0 note.write then Some note.tail else None }) note.tail (described_readable p) (ap (λ b. if b then Some note.tail else None) q)
-          ∙ walked_end n area 1 note.tail (readable_piece n room note ∷ []) (readable_piece n room note ∷ []) (omega (arith, t.some)) tail refl (record { piece = writable_piece n room note; next = None }) (described_writable (readable_piece n room note ∷ []) refl q) refl)
+          begin (walked_next n area 0 note.head [] (omega (arith, t.some)) head (record { piece = readable_piece n room note; next = if nat_lt 0 note.write then Some note.tail else None }) note.tail (described_readable p) (ap (λ b. if b then Some note.tail else None) q)
+          ∙ walked_end n area 1 note.tail (readable_piece n room note ∷ []) (omega (arith, t.some)) tail (record { piece = writable_piece n room note; next = None }) (described_writable (readable_piece n room note ∷ []) refl q) refl)
       go true false p q =
-          begin (walked_end n area 0 note.head [] [] (omega (arith, t.some)) head refl (record { piece = readable_piece n room note; next = if nat_lt 0 note.write then Some note.tail else None }) (described_readable p) (ap (λ b. if b then Some note.tail else None) q))
+          begin (walked_end n area 0 note.head [] (omega (arith, t.some)) head (record { piece = readable_piece n room note; next = if nat_lt 0 note.write then Some note.tail else None }) (described_readable p) (ap (λ b. if b then Some note.tail else None) q))
       go false true p q =
           let same : note.tail ≡ note.head = single (ap (λ b. b && nat_lt 0 note.write) p) in
-          begin (walked_end n area 0 note.head [] [] (omega (arith, t.some)) head refl (record { piece = writable_piece n room note; next = None }) (described_writable [] refl q ∙ ap (λ d. described area d []) same) refl)
+          begin (walked_end n area 0 note.head [] (omega (arith, t.some)) head (record { piece = writable_piece n room note; next = None }) (described_writable [] refl q ∙ ap (λ d. described area d (totals_of [])) same) refl)
       go false false p q = absurd (grind (arith, nat_tests))
 
 -- the lengths of its parts

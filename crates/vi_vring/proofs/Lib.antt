@@ -1,4 +1,5 @@
 pub mod Walks
+pub mod Surveys
 pub mod Pops
 pub mod NoteLemmas
 pub mod Wholes

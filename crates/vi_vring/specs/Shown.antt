@@ -1,5 +1,5 @@
 -- What an area of any content shows: the chain that begins at a descriptor, or its break (Virtio 1.2, 2.7.5).
-use Rattle.std.specs.Prelude.{◌≤◌, ℕ, zero, suc, ◌+◌, ◌==◌, Bool, not, ◌&&◌, ◌||◌, nat_lt, nat_le, bit_and, if◌then◌else◌, List, [], ◌∷◌, ◌++◌, length, Option, Some, None, Result, Ok, Err, sum_by, All}
+use Rattle.std.specs.Prelude.{◌≤◌, ℕ, zero, suc, ◌+◌, ◌==◌, Bool, true, not, ◌&&◌, ◌||◌, nat_lt, nat_le, bit_and, if◌then◌else◌, List, [], ◌∷◌, ◌++◌, length, Option, Some, None, Result, Ok, Err, sum_by, All}
 use Rattle.std.specs.List.{list_any}
 use Rattle.vi_bytes.specs.Fields.{field}
 use Rattle.vi_vring.specs.Layout.{descriptor_at}
@@ -7,6 +7,7 @@ use Rattle.vi_vring.specs.declared.chain.Break.{Break}
 use Rattle.vi_vring.specs.declared.chain.Break.TheVariants.{Outside, Loop, Indirect, Mixed, Memory}
 use Rattle.vi_vring.specs.declared.walking.Piece.{Piece}
 use Rattle.vi_vring.specs.declared.walking.Descriptor.{Descriptor}
+use Rattle.vi_vring.specs.declared.walking.Totals.{Totals}
 
 -- the flags of a descriptor: NEXT 1, WRITE 2, INDIRECT 4
 abbrev pub has_flag : ℕ → ℕ → List ℕ → Bool
@@ -27,24 +28,32 @@ read_total pieces = sum_by (λ p. if p.writes then 0 else p.len) pieces
 abbrev pub write_total : List Piece → ℕ
 write_total pieces = sum_by (λ p. if p.writes then p.len else 0) pieces
 
--- the bytes of the piece's part, with those before it
-abbrev pub part_total : Piece → List Piece → ℕ
-part_total p before = if p.writes then write_total before else read_total before
+-- what of the pieces counts for the next descriptor: the bytes of both parts, and whether one is writable
+abbrev pub totals_of : List Piece → Totals
+totals_of pieces = record { read = read_total pieces; write = write_total pieces; has_writable = list_any (λ p. p.writes) pieces }
+
+-- the totals with one more piece
+abbrev pub counted : Piece → Totals → Totals
+counted p t = if p.writes then record { read = t.read; write = t.write + p.len; has_writable = true } else record { read = t.read + p.len; write = t.write; has_writable = t.has_writable }
+
+-- the bytes of the piece's part that stand before it
+abbrev pub part_total : Piece → Totals → ℕ
+part_total p t = if p.writes then t.write else t.read
 
 -- the piece is readable and a writable one stands before it
-abbrev pub is_mixed : Piece → List Piece → Bool
-is_mixed p before = not p.writes && list_any (λ q. q.writes) before
+abbrev pub is_mixed : Piece → Totals → Bool
+is_mixed p t = not p.writes && t.has_writable
 
 -- the piece passes the end of the area, or its part has more than 1024 bytes with it
-abbrev pub passes_memory : List ℕ → Piece → List Piece → Bool
-passes_memory area p before = nat_lt (length area) (p.address + p.len) || nat_lt 1024 (part_total p before + p.len)
+abbrev pub passes_memory : List ℕ → Piece → Totals → Bool
+passes_memory area p t = nat_lt (length area) (p.address + p.len) || nat_lt 1024 (part_total p t + p.len)
 
--- a descriptor behind these pieces, or its break
-abbrev pub described : List ℕ → ℕ → List Piece → Result Descriptor Break
-described area d before =
+-- a descriptor behind pieces with these totals, or its break
+abbrev pub described : List ℕ → ℕ → Totals → Result Descriptor Break
+described area d t =
     if has_flag 4 d area then Err Indirect
-    else if is_mixed (piece_at d area) before then Err Mixed
-    else if passes_memory area (piece_at d area) before then Err Memory
+    else if is_mixed (piece_at d area) t then Err Mixed
+    else if passes_memory area (piece_at d area) t then Err Memory
     else Ok (record { piece = piece_at d area; next = next_at d area })
 
 -- the chain goes on at the next descriptor, or ends
@@ -59,11 +68,21 @@ onward (Ok d) before rest = followed d.next (before ++ d.piece ∷ []) rest
 -- the pieces of the chain from a descriptor on, behind those before it, with `left` descriptors at most
 abbrev pub walked : ℕ → List ℕ → ℕ → ℕ → List Piece → Result (List Piece) Break
 walked n area zero d before = if nat_le n d then Err Outside else Err Loop
-walked n area (suc left) d before = if nat_le n d then Err Outside else onward (described area d before) before (walked n area left)
+walked n area (suc left) d before = if nat_le n d then Err Outside else onward (described area d (totals_of before)) before (walked n area left)
 
 -- the pieces of the chain that begins at this descriptor, in order, or its break
 unfoldable pub shown : ℕ → List ℕ → ℕ → Result (List Piece) Break
 shown n area head = walked n area n head []
+
+-- the totals of a chain, or its break
+abbrev pub surveyed : Result (List Piece) Break → Result Totals Break
+surveyed (Ok pieces) = Ok (totals_of pieces)
+surveyed (Err fault) = Err fault
+
+-- each part has at most 1024 bytes
+pub record IsSmall (t : Totals) : Type 0 where
+  pub readable : t.read ≤ 1024
+  pub writable : t.write ≤ 1024
 
 -- the pieces lie in the area, and each part has at most 1024 bytes
 pub record Fits (area : List ℕ) (pieces : List Piece) : Type 0 where

@@ -1,5 +1,5 @@
 //! The device's side, over an area with any content.
-ghost use Rattle.std.specs.Prelude.{◌≡◌, ◌≤◌, ◌<◌, ◌+◌, ◌*◌, ◌++◌, length};
+ghost use Rattle.std.specs.Prelude.{◌≡◌, ◌≤◌, ◌<◌, ◌+◌, ◌*◌, [], ◌++◌, length};
 ghost use Rattle.byteorder.specs.Endian.{little_bytes};
 ghost use Rattle.vi_bytes.specs.Fields.{field};
 ghost use Rattle.vi_vring.specs.Layout.{available_index_at, available_entry_at, used_index_at};
@@ -11,7 +11,7 @@ use crate::bytes::{put, u16_at};
 use crate::chain::{Chain, Popped};
 use crate::layout;
 use crate::parts::scatter;
-use crate::walking::{Piece, read_len, walk, write_len};
+use crate::walking::{Piece, gather, survey};
 use arrayvec::ArrayVec;
 use byteorder::{ByteOrder, LittleEndian};
 
@@ -59,11 +59,11 @@ pub fn take_next(area: &mut [u8], n: u16, taken: &mut u16) -> Popped
     }
     let head = u16_at(area, layout::available_entry(n, *taken));
     *taken = taken.wrapping_add(1);
-    match walk(area, n, head) {
-        Ok(pieces) => Popped::Chain(Chain {
+    match survey(area, n, head) {
+        Ok(found) => Popped::Chain(Chain {
             head,
-            read: read_len(&pieces),
-            write: write_len(&pieces),
+            read: found.read,
+            write: found.write,
         }),
         Err(fault) => {
             return_used(area, n, head, 0);
@@ -72,19 +72,18 @@ pub fn take_next(area: &mut [u8], n: u16, taken: &mut u16) -> Popped
     }
 }
 
-/// The pieces of a chain that the area shows without a break.
-pub fn pieces_of(area: &[u8], n: u16, chain: &Chain) -> ArrayVec<Piece, 256>
+/// Puts the pieces of a chain that the area shows without a break into the list, which is lent since
+/// it is too long to be moved.
+pub fn pieces_of(area: &[u8], n: u16, chain: &Chain, pieces: &mut ArrayVec<Piece, 256>)
     requires roomy { IsRoomy n (length area.now) }
     requires shown { popped_as chain.now.head (shown n area.now chain.now.head) ≡ Popped.Chain chain.now }
-    ensures pieces { result.items ≡ pieces_shown n area.now chain.now.head }
-    ensures fits { Fits area.now result.items }
-    ensures read { read_total result.items ≡ chain.now.read }
-    ensures write { write_total result.items ≡ chain.now.write }
+    requires empty { pieces.old.items ≡ [] }
+    ensures pieces { pieces.new.items ≡ pieces_shown n area.now chain.now.head }
+    ensures fits { Fits area.now pieces.new.items }
+    ensures read { read_total pieces.new.items ≡ chain.now.read }
+    ensures write { write_total pieces.new.items ≡ chain.now.write }
 {
-    match walk(area, n, chain.head) {
-        Ok(pieces) => pieces,
-        Err(_) => unreachable!(),
-    }
+    gather(area, n, chain.head, pieces);
 }
 
 /// Writes the bytes at the start of the chain's writable part, and returns the chain as used.
@@ -95,7 +94,8 @@ pub fn write_back(area: &mut [u8], n: u16, chain: &Chain, bytes: &[u8])
     requires fits { length bytes.now ≤ chain.now.write }
     ensures { area.new ≡ area_after_push n chain.now.head bytes.now area.old }
 {
-    let pieces = pieces_of(area, n, chain);
+    let mut pieces = ArrayVec::new();
+    pieces_of(area, n, chain, &mut pieces);
     scatter(area, &pieces, bytes);
     return_used(area, n, chain.head, bytes.len() as u32);
 }

@@ -14,6 +14,7 @@ use crate::driver::{copy_collected, place, read_used};
 use crate::layout;
 use crate::note::{Notes, descriptors_for};
 use crate::parts::copy_readable;
+use arrayvec::ArrayVec;
 use std::alloc::{AllocError, Global};
 use std::marker::Model;
 
@@ -132,7 +133,8 @@ impl Ring {
         ensures bytes { out.new ≡ readable_bytes self.now.area (pieces_shown self.now.size self.now.area chain.now.head) }
         ensures queued { IfSome self.now.lists (λ l. popped_bytes chain.now.head l ≡ Some out.new) }
     {
-        let pieces = pieces_of(&self.area, self.size, chain);
+        let mut pieces = ArrayVec::new();
+        pieces_of(&self.area, self.size, chain, &mut pieces);
         copy_readable(&self.area, &pieces, out);
     }
 

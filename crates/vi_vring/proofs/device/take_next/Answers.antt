@@ -1,9 +1,9 @@
-use Rattle.std.proofs.Common.{◌≡◌, ap, sym, refl, ◌∙◌, Ok, Err}
+use Rattle.std.proofs.Common.{◌≡◌, ap, sym, ◌∙◌}
 use Rattle.vi_bytes.specs.Fields.{field}
 use Rattle.vi_vring.specs.declared.chain.Popped.TheVariants.{Chain, Empty, Broken}
-use Rattle.vi_vring.specs.Device.{popped_of, used_after}
-use Rattle.vi_vring.specs.Shown.{read_total, write_total}
-use Rattle.vi_vring.proofs.Pops.{popped_empty, popped_at, area_popped, taken_popped}
+use Rattle.vi_vring.specs.Device.{popped_of, head_at, used_after}
+use Rattle.vi_vring.proofs.Pops.{chain_with, popped_empty, popped_chain, popped_broken, area_popped, taken_popped}
+use Rattle.vi_vring.proofs.device.take_next.Goals.{In-Ok, After-return_used}
 use Rattle.vi_vring.proofs.device.take_next.Goals as goal
 
 empty : (c : goal.Then-u16_at-taken) → popped_of c.args.n c.args.area.now c.args.taken.now ≡ Empty
@@ -18,15 +18,12 @@ returns-then-u16_at-taken-clause-area c = sym (area_popped c.args.n c.args.area.
 pub returns-then-u16_at-taken-clause-taken : goal.returns-then-u16_at-taken-clause-taken
 returns-then-u16_at-taken-clause-taken c = sym (taken_popped c.args.n c.args.area.now c.args.taken.now Empty (empty c))
 
--- the pieces that the walk found, and the head that it began at
-found : (c : goal.After-write_len) → popped_of c.args.n c.args.area.now c.args.taken.now ≡ Chain (record { head = c.u16_at-head.result; read = c.read_len.result; write = c.write_len.result })
+-- the chain that was surveyed, from the head that was read
+found : (c : In-Ok) → popped_of c.args.n c.args.area.now c.args.taken.now ≡ Chain (chain_with c.u16_at-head.result c.in-Ok.found)
 found c =
     let index = c.u16_at.ensures ∙ ap (λ at. field at 2 c.args.area.now) c.available_index.ensures in
     let head = c.u16_at-head.ensures ∙ ap (λ at. field at 2 c.args.area.now) c.available_entry.ensures in
-    let reads : read_total c.in-Ok.pieces.items ≡ c.read_len.result = ap read_total (sym c.deref.ensures.0) ∙ sym c.read_len.ensures in
-    let writes : write_total c.in-Ok.pieces.items ≡ c.write_len.result = ap write_total (sym c.deref-in-Ok.ensures.0) ∙ sym c.write_len.ensures in
-    popped_at c.args.n c.args.area.now c.args.taken.now c.u16_at.result c.u16_at-head.result (Ok c.in-Ok.pieces.items) index c.if-u16_at-taken.false head c.in-Ok.ensures.shown
-    ∙ rw (reads, writes) refl
+    popped_chain c.args.n c.args.area.now c.args.taken.now c.u16_at.result c.u16_at-head.result index c.if-u16_at-taken.false head c.in-Ok.found c.in-Ok.ensures
 
 pub returns-in-Ok-clause-popped : goal.returns-in-Ok-clause-popped
 returns-in-Ok-clause-popped c = sym (found c)
@@ -37,22 +34,20 @@ returns-in-Ok-clause-area c = sym (area_popped c.args.n c.args.area.now c.args.t
 pub returns-in-Ok-clause-taken : goal.returns-in-Ok-clause-taken
 returns-in-Ok-clause-taken c = sym (taken_popped c.args.n c.args.area.now c.args.taken.now _ (found c))
 
-pub returns-in-Err-clause-popped : goal.returns-in-Err-clause-popped
-returns-in-Err-clause-popped c =
+head : (c : After-return_used) → c.u16_at-head.result ≡ head_at c.args.n c.args.area.now c.args.taken.now
+head c = c.u16_at-head.ensures ∙ ap (λ at. field at 2 c.args.area.now) c.available_entry.ensures
+
+broken : (c : After-return_used) → popped_of c.args.n c.args.area.now c.args.taken.now ≡ Broken c.in-Err.fault
+broken c =
     let index = c.u16_at.ensures ∙ ap (λ at. field at 2 c.args.area.now) c.available_index.ensures in
-    let head = c.u16_at-head.ensures ∙ ap (λ at. field at 2 c.args.area.now) c.available_entry.ensures in
-    sym (popped_at c.args.n c.args.area.now c.args.taken.now c.u16_at.result c.u16_at-head.result (Err c.in-Err.fault) index c.if-u16_at-taken.false head c.in-Err.ensures.shown)
+    popped_broken c.args.n c.args.area.now c.args.taken.now c.u16_at.result c.u16_at-head.result index c.if-u16_at-taken.false (head c) c.in-Err.fault c.in-Err.ensures
+
+pub returns-in-Err-clause-popped : goal.returns-in-Err-clause-popped
+returns-in-Err-clause-popped c = sym (broken (goal.at.returns-in-Err-clause-popped c).After-return_used)
 
 pub returns-in-Err-clause-area : goal.returns-in-Err-clause-area
 returns-in-Err-clause-area c =
-    let index = c.u16_at.ensures ∙ ap (λ at. field at 2 c.args.area.now) c.available_index.ensures in
-    let head = c.u16_at-head.ensures ∙ ap (λ at. field at 2 c.args.area.now) c.available_entry.ensures in
-    let found = popped_at c.args.n c.args.area.now c.args.taken.now c.u16_at.result c.u16_at-head.result (Err c.in-Err.fault) index c.if-u16_at-taken.false head c.in-Err.ensures.shown in
-    c.return_used.ensures ∙ ap (λ h. used_after c.args.n h 0 c.args.area.now) head ∙ sym (area_popped c.args.n c.args.area.now c.args.taken.now (Broken c.in-Err.fault) found)
+    c.return_used.ensures ∙ ap (λ h. used_after c.args.n h 0 c.args.area.now) (head (goal.at.returns-in-Err-clause-area c).After-return_used) ∙ sym (area_popped c.args.n c.args.area.now c.args.taken.now (Broken c.in-Err.fault) (broken (goal.at.returns-in-Err-clause-area c).After-return_used))
 
 pub returns-in-Err-clause-taken : goal.returns-in-Err-clause-taken
-returns-in-Err-clause-taken c =
-    let index = c.u16_at.ensures ∙ ap (λ at. field at 2 c.args.area.now) c.available_index.ensures in
-    let head = c.u16_at-head.ensures ∙ ap (λ at. field at 2 c.args.area.now) c.available_entry.ensures in
-    let found = popped_at c.args.n c.args.area.now c.args.taken.now c.u16_at.result c.u16_at-head.result (Err c.in-Err.fault) index c.if-u16_at-taken.false head c.in-Err.ensures.shown in
-    sym (taken_popped c.args.n c.args.area.now c.args.taken.now (Broken c.in-Err.fault) found)
+returns-in-Err-clause-taken c = sym (taken_popped c.args.n c.args.area.now c.args.taken.now (Broken c.in-Err.fault) (broken (goal.at.returns-in-Err-clause-taken c).After-return_used))

@@ -9,8 +9,8 @@ push_reserved-requires c =
     let row : GrantRow = record { grants = c.self.inside.grants.items; spare = c.self.inside.spare } in
     let fits : length row.grants + row.spare ≤ vec_capacity c.self.inside.grants = omega (arith, c.self.inside.grants.ok.0, c.self.invariant.1) in
     let room = room-granted c.args.asked row (vec_capacity c.self.inside.grants) fits (rw (← c.self.view_is) at c.requires.room) in
-    let kept = ap (λ (gs : List Grant). length gs) c.leave_others.ensures.items in
-    omega (arith, kept, room, c.leave_others.ensures.capacity, c.leave_others.new.grants.ok.0)
+    let kept = ap (λ (gs : List Grant). length gs) c.leave_others-had.ensures.items in
+    omega (arith, kept, room, c.leave_others-had.ensures.capacity, c.leave_others-had.new.grants.ok.0)
 
 pub invariant_of-self : goal.invariant_of-self
 invariant_of-self c =
@@ -20,12 +20,12 @@ invariant_of-self c =
     let has_room = rw (← c.self.view_is) at c.requires.room in
     let in_capacity = room-granted c.args.asked row (vec_capacity c.self.inside.grants) fits has_room in
     let in_u32 = room-granted c.args.asked row 4294967295 small has_room in
-    let kept = ap (λ (gs : List Grant). length gs) c.leave_others.ensures.items in
+    let kept = ap (λ (gs : List Grant). length gs) c.leave_others-had.ensures.items in
     let left : c.room_left-self-inside.result ≡ cond (is_some (grant_of c.args.asked row.grants)) row.spare (row.spare - 1) =
-    rw (c.room_left-self-inside.ensures, c.has_grant.ensures, c.deref.ensures.value) refl in (
-      rw (c.push_reserved.ensures.items, c.leave_others.ensures.items) (IsRow-granted c.args.asked c.args.lease row c.room_left-self-inside.result c.self.invariant.0 c.requires.lease c.requires.has_asked),
-      omega (arith, kept, left, in_capacity, c.push_reserved.ensures.len, c.push_reserved.ensures.capacity, c.leave_others.ensures.capacity, c.leave_others.new.grants.ok.0),
-      omega (arith, kept, left, in_u32, c.push_reserved.ensures.len, c.leave_others.new.grants.ok.0),
+    rw (c.room_left-self-inside.ensures, c.leave_others-had.ensures.had) refl in (
+      rw (c.push_reserved.ensures.items, c.leave_others-had.ensures.items) (IsRow-granted c.args.asked c.args.lease row c.room_left-self-inside.result c.self.invariant.0 c.requires.lease c.requires.has_asked),
+      omega (arith, kept, left, in_capacity, c.push_reserved.ensures.len, c.push_reserved.ensures.capacity, c.leave_others-had.ensures.capacity, c.leave_others-had.new.grants.ok.0),
+      omega (arith, kept, left, in_u32, c.push_reserved.ensures.len, c.leave_others-had.new.grants.ok.0),
     )
 
 pub returns-clause-row : goal.returns-clause-row
