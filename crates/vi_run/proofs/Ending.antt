@@ -170,15 +170,16 @@ kept_merged l h logs none same merged =
 
 -- once all have ended, and are done, the closed object and their logs are a run
 pub runs : (s : ScriptValue) (l : Last) (control : ControlValue) (pages : List (List ℕ)) (logs : List LogValue) → IsClosed s l control pages → l.log ≡ [] → AllDone s l.taken
-    → length l.taken ≡ length (actors s) → entries_of logs ≡ map (λ (t : Taken). t.log) l.taken → IsRun (record { last = l; logs = logs; control = control })
-runs s l control pages logs closed none done count same = record {
+    → length l.taken ≡ length (actors s) → length l.taken ≡ l.made → entries_of logs ≡ map (λ (t : Taken). t.log) l.taken → IsRun (record { last = l; logs = logs; control = control })
+runs s l control pages logs closed none done count joined same = record {
   world = closed.world;
   run = record {
     playable = subst IsPlayable (sym closed.script) closed.playable;
     sound = subst (λ (t : ScriptValue). IsSound t closed.world) (sym closed.script) closed.sound;
     finished = subst (λ (t : ScriptValue). is_finished t closed.world ≡ true) (sym closed.script) (all_finished s closed.world l.taken closed.playable closed.sound done count closed.taken);
     history = closed.history;
-    kept = kept_merged l closed.world.history logs none same closed.history;
+    kept = record { joined = joined; own = λ i t at. (done i t at).number; logs_are = same; nothing = none };
+    merged = kept_merged l closed.world.history logs none same closed.history;
     control = closed.state;
   };
 }

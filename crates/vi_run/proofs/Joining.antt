@@ -163,6 +163,7 @@ pub ends : (b : Board) (count : ℕ) (p : PassValue) (logs : List LogValue) (l :
 ends b count p logs l control pages e all is closed =
     runs b.script l control pages logs closed (ap (λ (x : Last). x.log) is ∙ e.log) (subst (AllDone b.script) (sym same) e.ended)
     (let sum = e.sum in let n = ap (λ (ts : List Taken). length ts) same in omega (arith, sum, n, all))
+    (let sum = e.sum in let n = ap (λ (ts : List Taken). length ts) same in let made = ap (λ (x : Last). x.made) is ∙ e.made in omega (arith, sum, n, made))
     (e.kept ∙ sym (ap (map (λ (t : Taken). t.log)) same))
   where
     same : l.taken ≡ (let v : View = p.view in v.taken)

@@ -17,11 +17,11 @@ made_of entries shown dropped = record { entries = entries; shown = map (named_b
 
 -- the tickets of the logs are 0, 1, 2 and so on
 pub ticketed : (f : FinishedValue) → IsRun f → (n : ℕ) × AreTicketed n f.logs
-ticketed f r = (length r.world.history, r.run.kept.tickets)
+ticketed f r = (length r.world.history, r.run.merged.tickets)
 
 -- the merged entries are the world's history
 entries_are : (f : FinishedValue) (entries : List Entry) (r : IsRun f) → IsMerged f.logs entries → entries ≡ r.world.history
-entries_are f entries r merged = merged-once f.logs entries r.world.history merged r.run.kept
+entries_are f entries r merged = merged-once f.logs entries r.world.history merged r.run.merged
 
 -- so they are few
 pub few_entries : (f : FinishedValue) (entries : List Entry) → IsRun f → IsMerged f.logs entries → length entries < 2 ^ 32

@@ -1,5 +1,5 @@
 -- A run before its first turn, and what it comes to.
-use Rattle.std.specs.Prelude.{◌≡◌, ℕ, ◌+◌, true, List, [], length, slice_get, Some, None}
+use Rattle.std.specs.Prelude.{◌≡◌, ℕ, ◌+◌, true, List, [], length, map, slice_get, Some, None}
 use Rattle.vi_log.specs.Logs.{LogValue, IsMerged}
 use Rattle.vi_history.specs.declared.outcome.Outcome.{Outcome}
 use Rattle.vi_model.specs.Worlds.{World}
@@ -8,7 +8,7 @@ use Rattle.vi_model.specs.Playable.{IsPlayable}
 use Rattle.vi_model.specs.Sound.{IsSound}
 use Rattle.vi_control.specs.Value.{ControlValue}
 use Rattle.vi_core.specs.Outcomes.{outcome_of}
-use Rattle.vi_turns.specs.Holding.{Last}
+use Rattle.vi_turns.specs.Holding.{Taken, Last}
 use Rattle.vi_turns.specs.Passes.{PassValue, Board}
 use Rattle.vi_turns.specs.Ended.{IsHistory}
 use Rattle.vi_turns.specs.declared.view.View.{View}
@@ -58,6 +58,14 @@ pub record FinishedValue : Type 0 where
   pub logs : List LogValue
   pub control : ControlValue
 
+-- Every pass that was split off was joined, and the kept logs are theirs, each actor's own: pass i + 1, which is that of actor i,
+-- was joined as the i-th, and its log is the i-th. Pass 0 itself logged nothing.
+pub record AreKept (logs : List LogValue) (last : Last) : Type 0 where
+  pub joined : length last.taken ≡ last.made
+  pub own : (i : ℕ) (t : Taken) → slice_get last.taken i ≡ Some t → t.number ≡ i + 1
+  pub logs_are : map (λ (l : LogValue). l.entries) logs ≡ map (λ (t : Taken). t.log) last.taken
+  pub nothing : last.log ≡ []
+
 -- In a sound world of the script every line is finished, its history is the merge of the logs in the last view, which are those
 -- that were kept, and the control is the world's.
 pub record IsRunTo (f : FinishedValue) (w : World) : Type 0 where
@@ -65,7 +73,8 @@ pub record IsRunTo (f : FinishedValue) (w : World) : Type 0 where
   pub sound : IsSound f.last.script w
   pub finished : is_finished f.last.script w ≡ true
   pub history : IsHistory f.last w.history
-  pub kept : IsMerged f.logs w.history
+  pub kept : AreKept f.logs f.last
+  pub merged : IsMerged f.logs w.history
   pub control : f.control.state ≡ w.control
 
 pub record IsRun (f : FinishedValue) : Type 0 where

@@ -15,14 +15,12 @@ use vi_core::{Gate, Turned};
 use vi_log::Log;
 use vi_turns::{Pass, Shared};
 
-/// How many turns a worker takes at most until all workers meet.
-const TURNS: u32 = 4096;
-
 /// How many turns an actor takes in a row at most, as long as it moves.
 const IN_A_ROW: u32 = 64;
 
 /// Runs all actors on 1 to 16 workers until every line is finished, and joins their passes. Each worker has some of the actors; in
-/// each round it takes at most 4096 turns of theirs, and fewer where another worker has taken as many or no actor moves.
+/// each round it takes at most 4096 turns of theirs, and fewer where another worker has taken as many or no actor moves. One that
+/// has all of them takes at most 65536.
 pub fn run<R: Threads + Wait + Sync, G: Gate + Sync>(
     rt: &R,
     opened: Opened,
@@ -62,7 +60,7 @@ fn take_round<R: Threads + Sync, G: Gate + Sync>(
     ensures actors { AreActors shared.now actors.new }
     ensures length { length actors.new ≡ length actors.old }
 {
-    let round = Round::new();
+    let round = Round::new(actors.len() <= size);
     for_each_chunk_mut(
         rt,
         actors,
@@ -76,16 +74,17 @@ fn take_round<R: Threads + Sync, G: Gate + Sync>(
     );
 }
 
-// At most 4096 turns of these actors, one after the other and over again, until the round is over.
+// As many turns of these actors as the round has at most, one after the other and over again, until it is over.
 fn take_turns<G: Gate>(shared: &Shared, chunk: &mut [Actor], gate: &G, round: &Round)
     requires some { 0 < length chunk.old }
     requires own { All (λ a. IsPassOf shared.now a.pass) chunk.old }
     ensures same { AreSame shared.now chunk.old chunk.new }
 {
+    let most = round.most_turns();
     let mut turns = 0;
     let mut at = 0;
     let mut waiting = Waiting::default();
-    while turns + IN_A_ROW <= TURNS && !waiting.is_over {
+    while turns + IN_A_ROW <= most && !waiting.is_over {
         if at == chunk.len() {
             at = 0;
             waiting.look(round);

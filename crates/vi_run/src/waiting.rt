@@ -1,6 +1,14 @@
 //! What the workers of a round see of one another, and how one of them waits.
+ghost use Rattle.std.specs.Prelude.{◌≤◌};
+
 use std::sync::atomic::{AtomicBool, AtomicU64, Ordering};
 use std::thread;
+
+/// How many turns a worker takes at most until all workers meet.
+const TURNS: u32 = 4096;
+
+/// The same of a worker that has all actors: it meets nobody.
+const TURNS_ALONE: u32 = 65536;
 
 /// How often in a row a worker goes over its actors, while no actor of any worker moves, until the round is over.
 const STILL: u32 = 128;
@@ -15,15 +23,25 @@ pub struct Round {
     moves: AtomicU64,
     /// Whether a worker has ended it.
     over: AtomicBool,
+    /// Whether one worker has all actors.
+    is_alone: bool,
 }
 
 impl Round {
-    /// A round that begins.
-    pub fn new() -> Self {
+    /// A round that begins. Where one worker has all actors, it has nobody to wait for.
+    pub fn new(is_alone: bool) -> Self {
         Self {
             moves: AtomicU64::new(0),
             over: AtomicBool::new(false),
+            is_alone,
         }
+    }
+
+    /// How many turns each of its workers takes at most.
+    pub(crate) fn most_turns(&self) -> u32
+        ensures { result ≤ 65536 }
+    {
+        if self.is_alone { TURNS_ALONE } else { TURNS }
     }
 
     /// An actor moved.
@@ -37,7 +55,8 @@ impl Round {
     }
 }
 
-/// How a worker waits: it yields the longer, the more often its own actors didn't move.
+/// How a worker waits: it yields the longer, the more often its own actors didn't move, and not at all
+/// where it is alone.
 #[derive(Default, Drop)]
 pub struct Waiting {
     /// Whether its round is over: another worker has ended it, or no actor of any worker moves.
@@ -53,10 +72,9 @@ pub struct Waiting {
 impl Waiting {
     /// It went over its actors: lets other workers go first, and looks at the round.
     pub fn look(&mut self, round: &Round) {
-        for _time in 0..self.yields {
-            thread::yield_now();
+        if !round.is_alone {
+            self.give_way();
         }
-        self.yields = self.yields.saturating_add(1).min(YIELDS);
         let moves = round.moves.load(Ordering::Relaxed);
         self.still = if moves == self.seen {
             self.still.saturating_add(1)
@@ -65,6 +83,14 @@ impl Waiting {
         };
         self.seen = moves;
         self.is_over = STILL <= self.still || round.over.load(Ordering::Relaxed);
+    }
+
+    // Yields, and once more the next time.
+    fn give_way(&mut self) {
+        for _time in 0..self.yields {
+            thread::yield_now();
+        }
+        self.yields = self.yields.saturating_add(1).min(YIELDS);
     }
 
     /// An actor of its own took so many turns, of which only the last may be without a move.

@@ -7,8 +7,8 @@ invariant-loop-turns g l = record {
   same : AreSame l.shared l.fn.chunk l.chunk;
   some : 0 < length l.chunk;
   at : l.at ≤ length l.chunk;
-  few : l.turns ≤ 4096;
+  few : l.turns ≤ l.most;
 }
 
 abbrev pub decreases-loop-turns : goal.decreases-loop-turns
-decreases-loop-turns g l = 4096 - l.turns
+decreases-loop-turns g l = l.most - l.turns
