@@ -1,13 +1,20 @@
 -- What is known of every sound world and of every turn.
-use Rattle.std.specs.Prelude.{◌≡◌, ◌⊎◌, ◌==◌, ◌≢◌, ◌<◌, ◌≤◌, ℕ, Bool, true, false, List, [], ◌∷◌, length, get_or}
+use Rattle.std.specs.Prelude.{◌≡◌, ◌⊎◌, ◌==◌, ◌≢◌, ◌<◌, ◌≤◌, ℕ, Bool, true, false, List, [], ◌∷◌, length, get_or, set, Some}
 use Rattle.std.specs.List.{AllByRecursion}
 use Rattle.vi_bytes.specs.declared.lease.Lease.{Lease}
+use Rattle.vi_bytes.specs.declared.part.Part.{Part}
 use Rattle.vi_lines.specs.declared.line.Who.{Who}
 use Rattle.vi_lines.specs.declared.line.Who.TheVariants as who
 use Rattle.vi_lines.specs.Value.{ScriptValue}
 use Rattle.vi_lines.specs.Valid.{IsValid}
 use Rattle.vi_lines.specs.Fields.{HasFields}
 use Rattle.vi_history.specs.declared.call.Caller.TheVariants.{Driver}
+use Rattle.vi_history.specs.declared.call.Call.{Call}
+use Rattle.vi_history.specs.declared.call.Call.TheVariants as call
+use Rattle.vi_history.specs.Device.{One}
+use Rattle.vi_history.specs.Translation.{lease, permits}
+use Rattle.vi_history.specs.Replies.{reply, next, page_at}
+use Rattle.vi_history.specs.Histories.{answer_of}
 use Rattle.vi_lines.specs.Calls.{lines_of}
 use Rattle.vi_lines.specs.Ordered.{IsOrdered}
 use Rattle.vi_lines.specs.Legal.{IsLegalHistory}
@@ -18,6 +25,10 @@ use Rattle.vi_model.specs.Actors.{Actor}
 use Rattle.vi_model.specs.Worlds.{World, stand_of, seat_of, actor_of, with_actor, opening}
 use Rattle.vi_model.specs.Turns.{Moved, ControlTurn, AccessTurn, control_turn, accesses, access_turn, left_by, left_by_access, turn, run}
 use Rattle.vi_model.specs.Playable.{IsPlayable}
+use Rattle.vi_model.specs.Grants.{piece}
+use Rattle.vi_model.specs.Serves.{page_of}
+use Rattle.vi_model.specs.Backs.{Seat, Access, Work, Reading, Writing, need_of, target_of, Accessed, access}
+use Rattle.vi_model.specs.Whole.{IsWholeDev}
 use Rattle.vi_model.specs.Sound.{IsSound}
 
 -- a valid script whose requests fit their fields can be played
@@ -36,6 +47,22 @@ ControlKeepsSound = (s : ScriptValue) (w : World) (a : Who) → IsPlayable s →
 abbrev pub AccessesKeepSound : Type 0
 AccessesKeepSound = (s : ScriptValue) (w : World) (a : Who) (page : ℕ) → IsPlayable s → IsSound s w → accesses s a page (actor_of s w a) ≡ true
     → IsSound s (left_by_access s w a page (access_turn s a (actor_of s w a) (get_or w.pages page [])))
+
+-- the call that an access of an endpoint is
+abbrev pub access_call : ℕ → Part → Work → Call
+access_call id part Reading = call.Read id part
+access_call id part (Writing bytes) = call.Write id part bytes
+
+-- the access of this page has the one-thread device's answer to the call, and leaves the memory that this device leaves
+pub record IsAnswered (one : One) (c : Call) (page : ℕ) (x : Accessed) : Type 0 where
+  pub answer : answer_of x.entry ≡ reply one c
+  pub memory : next one c ≡ record one { memory = set one.memory page x.page }
+
+-- So it is wherever the lease leads as the device does now, and permits the access.
+abbrev pub AccessesAnswer : Type 0
+AccessesAnswer = (s : ScriptValue) (place : ℕ) (z : Seat) (one : One) (l : Lease) (a : Access) → IsWholeDev one.dev
+    → lease one.dev (id_at s place) (page_of a.part.iova) ≡ Some (piece l (page_of a.part.iova)) → permits (need_of a.work) l.perm ≡ true
+    → IsAnswered one (access_call (id_at s place) a.part a.work) (target_of l a) (access s place z l a (page_at one.memory (target_of l a)))
 
 -- and so every turn, whoever takes it
 abbrev pub TurnsKeepSound : Type 0

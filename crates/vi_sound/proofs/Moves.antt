@@ -7,6 +7,7 @@ pub mod Starts
 pub mod Shows
 pub mod Accesses
 pub mod AccessSound
+pub mod Answered
 pub mod Asks
 pub mod Hears
 pub mod Drives

@@ -34,7 +34,7 @@
 ghost use Rattle.vi_model.specs.Bound.{MovesLower};
 ghost use Rattle.vi_model.specs.Bounds.{AcksAreAwaited, AcksFit, AnswersOnce, AsksFit, CallsFit, HistoryFits, LanesFit, MappingsAreWhole, MissesFit, OpenCallsFit, RequestsFit, SettingsFit, SubmitsFit};
 ghost use Rattle.vi_model.specs.Delivered.{RecordsAreShownWell};
-ghost use Rattle.vi_model.specs.Laws.{AccessesKeepSound, ActorsAccess, ActorsGoOn, ControlKeepsSound, EveryRunIsLegal, FewerLeasesKeepSound, FinishedIsOrdered, OnlyMovedChanges, OpeningIsSound, OthersStay, PlacesHaveIds, SoundIsLegal, TurnsKeepSound, ValidIsPlayable};
+ghost use Rattle.vi_model.specs.Laws.{AccessesAnswer, AccessesKeepSound, ActorsAccess, ActorsGoOn, ControlKeepsSound, EveryRunIsLegal, FewerLeasesKeepSound, FinishedIsOrdered, OnlyMovedChanges, OpeningIsSound, OthersStay, PlacesHaveIds, SoundIsLegal, TurnsKeepSound, ValidIsPlayable};
 ghost use Rattle.vi_model.specs.Rounds.{FinishedHasFinished, RoundsFinish};
 ghost use Rattle.vi_model.specs.Taken.{FinishedIsTaken, StartedIsTaken};
 
@@ -57,6 +57,12 @@ pub fn control_keeps_sound()
 /// A back end's access of a page of the memory, by a lease that it caches, keeps a sound world sound.
 pub fn accesses_keep_sound()
     ensures { AccessesKeepSound }
+{}
+
+/// An access by a lease that leads where the device leads now, and that permits it, has the one-thread device's answer,
+/// and leaves the memory that this device leaves.
+pub fn accesses_answer()
+    ensures { AccessesAnswer }
 {}
 
 /// Every turn keeps a sound world sound, whoever takes it.

@@ -28,13 +28,14 @@ use Rattle.vi_model.specs.Asking.{one_if}
 use Rattle.vi_model.specs.Tracks.{AreWhole, stands_at, IsTracked}
 use Rattle.vi_model.specs.Held.{count_held}
 use Rattle.vi_model.specs.Sound.{IsSoundBack, SoundParts}
+use Rattle.vi_model.specs.Laws.{access_call}
 use Rattle.vi_sound.proofs.Values.Aligned.{leased}
 use Rattle.vi_sound.proofs.Values.Histories.{due_own, whole_more}
 use Rattle.vi_sound.proofs.Values.Tables.{at_one}
 use Rattle.vi_sound.proofs.Values.Tells.{tell_more}
 use Rattle.vi_sound.proofs.Values.Frames.{track_other, driver_other}
 use Rattle.vi_sound.proofs.Values.Ids.{back_other}
-use Rattle.vi_sound.proofs.Moves.Accesses.{WishesAccess, cached_granted, cached_has, link_front, idle_miss, whole_free, no_reply, not_fault, access_is, access_call, access_reply}
+use Rattle.vi_sound.proofs.Moves.Accesses.{WishesAccess, cached_granted, cached_has, link_front, idle_miss, whole_free, no_reply, not_fault, access_is, access_reply}
 
 -- the world after an access of a page
 abbrev pub after_access : World → ℕ → ℕ → Accessed → World

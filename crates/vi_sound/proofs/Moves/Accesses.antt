@@ -36,6 +36,7 @@ use Rattle.vi_model.specs.Backs.{Seat, Work, Reading, Writing, Access, need_of, 
 use Rattle.vi_model.specs.Links.{IsGranted, AreGranted, AreClear, AreClearOf, IsLinked}
 use Rattle.vi_model.specs.Asking.{one_if, count_option, AreCurrent, ParkedIsCurrent, AsksOnce}
 use Rattle.vi_model.specs.Tracks.{AreWhole}
+use Rattle.vi_model.specs.Laws.{access_call}
 use Rattle.vi_sound.proofs.Values.Leases.{without_among, clear_without}
 
 -- when a back end wishes an access
@@ -148,11 +149,6 @@ no_reply [] h = refl
 no_reply (b ∷ bs) h = absurd (omega (arith, h))
 
 -- ---- the call of an access
-
--- the call that an access of an endpoint is
-abbrev pub access_call : ℕ → Part → Work → Call
-access_call id part Reading = call.Read id part
-access_call id part (Writing bytes) = call.Write id part bytes
 
 some_same : {A : Type 0} (x y : A) → Some x ≡ Some y → x ≡ y
 some_same x y h = cc

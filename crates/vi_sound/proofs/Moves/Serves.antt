@@ -37,6 +37,7 @@ use Rattle.vi_model.specs.Held.{IsRemoval, count_removals, count_held}
 use Rattle.vi_model.specs.Rooms.{all_transfers, is_in, pages_of, HasGrantRoom}
 use Rattle.vi_model.specs.Sound.{IsSoundBack, SoundParts}
 use Rattle.vi_model.specs.Whole.{IsWholeDev}
+use Rattle.vi_model.specs.Laws.{access_call}
 use Rattle.vi_sound.proofs.Values.Aligned.{found_leased}
 use Rattle.vi_sound.proofs.Values.Runs.{run_some, run_is, cut_is}
 use Rattle.vi_sound.proofs.Moves.Acks as Acks
@@ -49,7 +50,7 @@ use Rattle.vi_sound.proofs.Values.Tells.{tell_fault}
 use Rattle.vi_sound.proofs.Values.Histories.{stands_last, due_own, whole_more}
 use Rattle.vi_sound.proofs.Values.Frames.{track_other, driver_other, driver_same}
 use Rattle.vi_sound.proofs.Values.Ids.{back_other}
-use Rattle.vi_sound.proofs.Moves.Accesses.{access_call, access_is, fault_reply, access_record}
+use Rattle.vi_sound.proofs.Moves.Accesses.{access_is, fault_reply, access_record}
 use Rattle.vi_sound.proofs.Moves.Asks.{IsNow}
 use Rattle.vi_sound.proofs.Moves.Calls.{after_device}
 
