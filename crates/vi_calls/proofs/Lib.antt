@@ -1,4 +1,5 @@
 pub mod Counting
+pub mod Permuting
 pub mod Replying
 pub mod Firsts
 pub mod Tables

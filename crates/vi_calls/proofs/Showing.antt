@@ -1,24 +1,22 @@
 -- The queue shows the open calls.
-use Rattle.std.proofs.Common.{◌≡◌, ℕ, zero, suc, ◌≤◌, Bool, true, false, not, List, [], ◌∷◌, map, Option, Some, None, refl, ap, sym, ◌∙◌, arith}
-use Rattle.std.specs.Prelude.{count_by, sum_by, find, ◌==◌, if◌then◌else◌}
-use Rattle.std.specs.List.{AllByRecursion, Any}
+use Rattle.std.proofs.Common.{◌≡◌, ℕ, ◌≤◌, Bool, true, false, List, [], ◌∷◌, ◌++◌, map, Option, Some, None, refl, ap, ap₂, sym, ◌∙◌, subst, arith}
+use Rattle.std.specs.Prelude.{count_by, sum_by, filter, find, ◌==◌, if◌then◌else◌, IsPermutation}
+use Rattle.std.specs.List.{AllByRecursion, flat_map}
+use Rattle.std.specs.Option.{option_to_list}
+use Rattle.std.proofs.lemmas.List.{map-append}
+use Rattle.std.proofs.lemmas.List.Sorted.{IsPermutation-map}
 use Rattle.std.proofs.lemmas.List.Sums.{sum_by-cons}
 use Rattle.vi_vring.specs.Values as ring
 use Rattle.vi_calls.specs.declared.row.Token.{Token}
 use Rattle.vi_calls.specs.declared.calls.Submitted.{Submitted}
-use Rattle.vi_calls.specs.Replies.{answer_bytes, is_set}
-use Rattle.vi_calls.specs.Shown.{chain_parts, call_parts, popped_parts, taken_parts, is_of_request, requests_in, IsWritten, AreWritten, ShowsCalls}
-use Rattle.vi_calls.specs.Rows.{RowValue, is_head, is_in, is_some_head, is_in_chain}
-use Rattle.vi_calls.specs.Inner.{shown, queued_by, taken_by, bytes_of, answer_in, answered_by, port_by, tokens_with, chains_in, HasAnswer, AreTied}
-use Rattle.vi_calls.proofs.Counting.{one, count-cons, is-same, is-at, has, find-All, All-each}
+use Rattle.vi_calls.specs.Replies.{answer_bytes, answer_of}
+use Rattle.vi_calls.specs.Shown.{chain_parts, call_parts, popped_parts, taken_parts, is_of_request, reply_bytes, request_replies, ShowsCalls}
+use Rattle.vi_calls.specs.Rows.{RowValue, is_head, is_in}
+use Rattle.vi_calls.specs.Inner.{shown, queued_by, taken_by, bytes_of, answer_in, answered_by, port_by, tokens_with, HasAnswer, AreTied}
+use Rattle.vi_calls.proofs.Counting.{one, count-cons, is-same, has, find-All, All-each}
+use Rattle.vi_calls.proofs.Permuting.{times, times-append, times-cons, permuted}
 use Rattle.vi_calls.proofs.Tables.{used_head}
 use Rattle.vi_calls.proofs.Replying.{not-set}
-
-Any-here : {X : Type 0} (P : X → Type 0) (x : X) (xs : List X) → P x → Any P (x ∷ xs)
-Any-here P x xs is = (zero, x, omega arith, refl, is)
-
-Any-there : {X : Type 0} (P : X → Type 0) (x : X) (xs : List X) → Any P xs → Any P (x ∷ xs)
-Any-there P x xs any = (suc any.0, any.1, omega (arith, any.2), any.3, any.4)
 
 All-both : {X : Type 0} (P Q : X → Type 0) (xs : List X) → AllByRecursion P xs → AllByRecursion Q xs → AllByRecursion (λ x. P x × Q x) xs
 All-both P Q [] p q = tt
@@ -31,22 +29,6 @@ available-shown table (q ∷ qs) = ap (λ rest. chain_parts q ∷ rest) (availab
 popped-shown : (table : List Submitted) (qs : List ring.Queued) → map popped_parts qs ≡ map taken_parts (map (taken_by table) qs)
 popped-shown table [] = refl
 popped-shown table (q ∷ qs) = ap (λ rest. popped_parts q ∷ rest) (popped-shown table qs)
-
--- a token of a chain is of a request
-token-shown : (used : List ring.Used) (h : Option ℕ) → not (is_set (answer_in used h)) ≡ is_some_head h
-token-shown used None = refl
-token-shown used (Some head) = ap not (not-set (bytes_of used head))
-
-row-shown : (used : List ring.Used) (ts : List Token) → count_by is_of_request (map (answered_by used) ts) ≡ count_by is_in_chain ts
-row-shown used [] = refl
-row-shown used (t ∷ ts) =
-    let mine : one (is_of_request (answered_by used t)) ≡ one (is_in_chain t) = ap one (token-shown used t.head) in
-    omega (arith, mine, count-cons is_of_request (answered_by used t) (map (answered_by used) ts), count-cons is_in_chain t ts, row-shown used ts)
-
-rows-shown : (used : List ring.Used) (rows : List RowValue) → sum_by requests_in (map (port_by used) rows) ≡ sum_by chains_in rows
-rows-shown used [] = refl
-rows-shown used (r ∷ rows) =
-    omega (arith, row-shown used r.answered, sum_by-cons requests_in (port_by used r) (map (port_by used) rows), sum_by-cons chains_in r rows, rows-shown used rows)
 
 -- each used chain is found by its head
 each-found : (us : List ring.Used) → ((head : ℕ) → count_by (has used_head head) us ≤ 1) → AllByRecursion (λ u. find (has used_head u.head) us ≡ Some u) us
@@ -73,49 +55,78 @@ each-found (v ∷ vs) once = (
             absurd (omega (arith, there, w, once u.head, count-cons (has used_head u.head) v vs))
         go false e = found
 
--- some row and some token of it has a head that is counted
-head-written : (used : List ring.Used) (u : ring.Used) (h : Option ℕ) (b : Bool) → is_head u.head h ≡ b → b ≡ true → find (has used_head u.head) used ≡ Some u → HasAnswer u
-    → (is_set (answer_in used h) ≡ false) × (answer_bytes (answer_in used h) ≡ u.bytes)
-head-written used u None b e is found whole = absurd (cc)
-head-written used u (Some k) b e is found whole =
-    let same : k ≡ u.head = is-at k u.head (e ∙ is) in
-    rw (same, found) (not-set u.bytes, whole)
+-- ---- the chains of answered lines
 
-row-written : (used : List ring.Used) (u : ring.Used) → find (has used_head u.head) used ≡ Some u → HasAnswer u → (ts : List Token) → 1 ≤ count_by (is_in u.head) ts
-    → Any (IsWritten u.bytes) (map (answered_by used) ts)
-row-written used u found whole [] some = absurd (omega arith)
-row-written used u found whole (t ∷ ts) some = go (is_in u.head t) refl (row-written used u found whole ts)
-  where
-    go : (b : Bool) → is_in u.head t ≡ b → (1 ≤ count_by (is_in u.head) ts → Any (IsWritten u.bytes) (map (answered_by used) ts)) → Any (IsWritten u.bytes) (map (answered_by used) (t ∷ ts))
-    go true e rest =
-        let is = head-written used u t.head true e refl found whole in
-        Any-here (IsWritten u.bytes) (answered_by used t) (map (answered_by used) ts) (record { request = is.0; bytes_are = is.1 })
-    go false e rest =
-        let w : one (is_in u.head t) ≡ 0 = ap one e in
-        Any-there (IsWritten u.bytes) (answered_by used t) (map (answered_by used) ts) (rest (omega (arith, some, w, count-cons (is_in u.head) t ts)))
+abbrev token_heads : Token → List ℕ
+token_heads t = option_to_list t.head
 
-rows-written : (used : List ring.Used) (u : ring.Used) → find (has used_head u.head) used ≡ Some u → HasAnswer u → (rows : List RowValue) → 1 ≤ sum_by (tokens_with u.head) rows
-    → AreWritten (map (port_by used) rows) u
-rows-written used u found whole [] some = absurd (omega arith)
-rows-written used u found whole (r ∷ rows) some = go (tokens_with u.head r) refl (rows-written used u found whole rows)
+abbrev row_heads : RowValue → List ℕ
+row_heads r = flat_map token_heads r.answered
+
+-- a chain stands there as often as it is an answered line's
+token-times : (head : ℕ) (h : Option ℕ) → times head (option_to_list h) ≡ one (is_head head h)
+token-times head None = refl
+token-times head (Some k) = omega (arith, times-cons head k [])
+
+row-times : (head : ℕ) (ts : List Token) → times head (flat_map token_heads ts) ≡ count_by (is_in head) ts
+row-times head [] = refl
+row-times head (t ∷ ts) =
+    omega (arith, times-append head (token_heads t) (flat_map token_heads ts), token-times head t.head, count-cons (is_in head) t ts, row-times head ts)
+
+rows-times : (head : ℕ) (rows : List RowValue) → times head (flat_map row_heads rows) ≡ sum_by (tokens_with head) rows
+rows-times head [] = refl
+rows-times head (r ∷ rows) =
+    omega (arith, times-append head (row_heads r) (flat_map row_heads rows), row-times head r.answered, sum_by-cons (tokens_with head) r rows, rows-times head rows)
+
+used-times : (head : ℕ) (us : List ring.Used) → times head (map used_head us) ≡ count_by (has used_head head) us
+used-times head [] = refl
+used-times head (u ∷ us) = omega (arith, times-cons head u.head (map used_head us), count-cons (has used_head head) u us, used-times head us)
+
+-- ---- their replies
+
+-- the reply in the used chain with this head
+abbrev reply_in : List ring.Used → ℕ → List ℕ
+reply_in used head = answer_bytes (answer_of (bytes_of used head))
+
+row-replies : (used : List ring.Used) (ts : List Token) → map reply_bytes (filter is_of_request (map (answered_by used) ts)) ≡ map (reply_in used) (flat_map token_heads ts)
+row-replies used [] = refl
+row-replies used (t ∷ ts) = go t.head (row-replies used ts)
   where
-    go : (n : ℕ) → tokens_with u.head r ≡ n → (1 ≤ sum_by (tokens_with u.head) rows → AreWritten (map (port_by used) rows) u) → AreWritten (map (port_by used) (r ∷ rows)) u
-    go zero e rest =
-        Any-there (λ p. Any (IsWritten u.bytes) p.answered) (port_by used r) (map (port_by used) rows) (rest (omega (arith, some, e, sum_by-cons (tokens_with u.head) r rows)))
-    go (suc n) e rest =
-        Any-here (λ p. Any (IsWritten u.bytes) p.answered) (port_by used r) (map (port_by used) rows) (row-written used u found whole r.answered (omega (arith, e)))
+    go : (h : Option ℕ) → map reply_bytes (filter is_of_request (map (answered_by used) ts)) ≡ map (reply_in used) (flat_map token_heads ts)
+        → map reply_bytes (filter is_of_request (record { line = t.line; answer = answer_in used h } ∷ map (answered_by used) ts)) ≡ map (reply_in used) (option_to_list h ++ flat_map token_heads ts)
+    go None rest = rest
+    go (Some k) rest = rw (not-set (bytes_of used k)) (ap (λ (rs : List (List ℕ)). reply_in used k ∷ rs) rest)
+
+rows-replies : (used : List ring.Used) (rows : List RowValue) → flat_map request_replies (map (port_by used) rows) ≡ map (reply_in used) (flat_map row_heads rows)
+rows-replies used [] = refl
+rows-replies used (r ∷ rows) =
+    ap₂ (λ (a b : List (List ℕ)). a ++ b) (row-replies used r.answered) (rows-replies used rows)
+    ∙ sym (map-append (reply_in used) (row_heads r) (flat_map row_heads rows))
+
+-- a used chain has its own reply
+used-replies : (used us : List ring.Used) → AllByRecursion (λ u. (find (has used_head u.head) used ≡ Some u) × HasAnswer u) us
+    → map (reply_in used) (map used_head us) ≡ map (λ (u : ring.Used). u.bytes) us
+used-replies used [] all = refl
+used-replies used (u ∷ us) all =
+    let found = all.0.0 in
+    let whole = all.0.1 in
+    let mine : reply_in used u.head ≡ u.bytes = rw found whole in
+    ap₂ (λ (b : List ℕ) (bs : List (List ℕ)). b ∷ bs) mine (used-replies used us all.1)
 
 pub shows-calls : (table : List Submitted) (rows : List RowValue) (l : ring.Lists) → AreTied table rows l → ShowsCalls (shown table rows l) l
-shows-calls table rows l t =
-    let found = each-found l.used (λ head. omega (arith, t.once head)) in
-    record {
-      available = available-shown table l.available;
-      popped = popped-shown table l.popped;
-      used = All-each (λ u. (find (has used_head u.head) l.used ≡ Some u) × HasAnswer u) (AreWritten (map (port_by l.used) rows)) l.used
-          (λ u is. rows-written l.used u is.0 is.1 rows (omega (arith, t.owned u.head, counted u is.0)))
-          (All-both (λ u. find (has used_head u.head) l.used ≡ Some u) HasAnswer l.used found t.replies);
-      count = sym (rows-shown l.used rows ∙ t.chains);
-    }
+shows-calls table rows l t = record {
+  available = available-shown table l.available;
+  popped = popped-shown table l.popped;
+  used = subst (IsPermutation (map (λ (u : ring.Used). u.bytes) l.used)) (sym (rows-replies l.used rows))
+      (subst (λ (bs : List (List ℕ)). IsPermutation bs (map (reply_in l.used) (flat_map row_heads rows))) (used-replies l.used l.used all)
+      (IsPermutation-map (reply_in l.used) (map used_head l.used) (flat_map row_heads rows) heads));
+}
   where
-    counted : (u : ring.Used) → find (has used_head u.head) l.used ≡ Some u → 1 ≤ count_by (has used_head u.head) l.used
-    counted u found = (find-All used_head HasAnswer u.head l.used u found t.replies).2
+    found : AllByRecursion (λ u. find (has used_head u.head) l.used ≡ Some u) l.used
+    found = each-found l.used (λ head. omega (arith, t.once head))
+
+    all : AllByRecursion (λ u. (find (has used_head u.head) l.used ≡ Some u) × HasAnswer u) l.used
+    all = All-both (λ u. find (has used_head u.head) l.used ≡ Some u) HasAnswer l.used found t.replies
+
+    heads : IsPermutation (map used_head l.used) (flat_map row_heads rows)
+    heads = permuted (map used_head l.used) (flat_map row_heads rows) (λ head. omega (arith, used-times head l.used, t.owned head, rows-times head rows))

@@ -1,6 +1,6 @@
 -- What the request queue shows of the open calls.
-use Rattle.std.specs.Prelude.{◌≡◌, ℕ, false, not, List, length, map, count_by, sum_by, Bool, Any}
-use Rattle.std.specs.List.{AllByRecursion}
+use Rattle.std.specs.Prelude.{◌≡◌, ℕ, not, List, map, filter, Bool, IsPermutation}
+use Rattle.std.specs.List.{flat_map}
 use Rattle.vi_vring.specs.Values as ring
 use Rattle.vi_model.specs.Control.{Queued, Answered, Port}
 use Rattle.vi_calls.specs.Replies.{answer_bytes, is_set}
@@ -32,21 +32,20 @@ popped_parts q = record { head = q.head; parts = chain_parts q }
 abbrev pub is_of_request : Answered → Bool
 is_of_request a = not (is_set a.answer)
 
-abbrev pub requests_in : Port → ℕ
-requests_in p = count_by is_of_request p.answered
+-- what was answered to the requests of a driver, as bytes
+abbrev pub reply_bytes : Answered → List ℕ
+reply_bytes a = answer_bytes a.answer
 
--- these bytes were written for an answered request
-pub record IsWritten (bytes : List ℕ) (a : Answered) : Type 0 where
-  pub request : is_set a.answer ≡ false
-  pub bytes_are : answer_bytes a.answer ≡ bytes
+abbrev pub request_replies : Port → List (List ℕ)
+request_replies p = map reply_bytes (filter is_of_request p.answered)
 
-abbrev pub AreWritten : List Port → ring.Used → Type 0
-AreWritten ports u = Any (λ p. Any (IsWritten u.bytes) p.answered) ports
+-- the used chains are the answered requests, each once
+abbrev pub AreReplies : List ring.Used → List Port → Type 0
+AreReplies used ports = IsPermutation (map (λ (u : ring.Used). u.bytes) used) (flat_map request_replies ports)
 
--- The available chains are the requests of the queue, the popped ones those that are taken, and the used ones have the
--- bytes of answered requests and are as many.
+-- The available chains are the requests of the queue, the popped ones those that are taken, and the used ones the answered
+-- requests.
 pub record ShowsCalls (v : CallsValue) (l : ring.Lists) : Type 0 where
   pub available : map chain_parts l.available ≡ map call_parts v.queue
   pub popped : map popped_parts l.popped ≡ map taken_parts v.taken
-  pub used : AllByRecursion (AreWritten v.ports) l.used
-  pub count : length l.used ≡ sum_by requests_in v.ports
+  pub used : AreReplies l.used v.ports

@@ -46,5 +46,4 @@ shows_state p (Some l) tied shows = record {
   available = shows.available;
   popped = rw (popped_tasks l.popped p.calls.taken p.removals.opened shows.popped tied) (opened_all p.removals.opened);
   used = shows.used;
-  count = shows.count;
 }

@@ -1,13 +1,12 @@
 -- What the request queue shows of the state.
-use Rattle.std.specs.Prelude.{◌≡◌, ◌⊎◌, List, [], ◌∷◌, length, map, sum_by}
-use Rattle.std.specs.List.{AllByRecursion}
+use Rattle.std.specs.Prelude.{◌≡◌, ◌⊎◌, List, [], ◌∷◌, map}
 use Rattle.vi_history.specs.Requests.{reading}
 use Rattle.vi_vring.specs.Values as ring
 use Rattle.vi_model.specs.declared.task.Task.{Task}
 use Rattle.vi_model.specs.declared.task.Task.TheVariants.{Reads}
 use Rattle.vi_model.specs.Removals.{Removal}
 use Rattle.vi_model.specs.Control.{Control}
-use Rattle.vi_calls.specs.Shown.{call_parts, chain_parts, AreWritten, requests_in}
+use Rattle.vi_calls.specs.Shown.{call_parts, chain_parts, AreReplies}
 
 -- what the request in a chain asks for
 abbrev pub asked_by : ring.Queued → Task
@@ -19,10 +18,9 @@ AreOf [] rs = Unit {0}
 AreOf (t ∷ ts) [] = ⊥
 AreOf (t ∷ ts) (r ∷ rs) = ((t ≡ r.task) × AreOf ts rs) ⊎ AreOf (t ∷ ts) rs
 
--- The available chains are the requests of the queue, the popped ones those that open removals are of, and the used ones
--- have the bytes of answered requests and are as many.
+-- The available chains are the requests of the queue, the popped ones those that open removals are of, and the used ones the
+-- answered requests, each once.
 pub record ShowsState (c : Control) (l : ring.Lists) : Type 0 where
   pub available : map chain_parts l.available ≡ map call_parts c.queue
   pub popped : AreOf (map asked_by l.popped) c.removals
-  pub used : AllByRecursion (AreWritten c.ports) l.used
-  pub count : length l.used ≡ sum_by requests_in c.ports
+  pub used : AreReplies l.used c.ports

@@ -1,7 +1,7 @@
 -- The load script: four drivers, and for each an endpoint and a domain of its own. In every round each driver maps a
 -- page, its endpoint writes a number there and reads it again, the driver unmaps the page, and the endpoint reads
 -- once more. A caller's lines are counted from 1: a driver has its attach and then two lines a round, an endpoint
--- has three a round. What a line awaits makes its answer the same in every order.
+-- has three a round.
 use Rattle.std.specs.Prelude.{◌≡◌, ◌==◌, ℕ, ◌+◌, ◌*◌, ◌%◌, if◌then◌else◌, List, ◌++◌, codes, decimal, String, string_bytes}
 use Rattle.std.specs.Int.{w32, to_be_bytes}
 use Rattle.std.specs.List.{flat_map, range_with_len}
