@@ -1,0 +1,10 @@
+pub mod Sets
+pub mod Marking
+pub mod Sorting
+pub mod Setups
+pub mod Calls
+pub mod Leading
+pub mod Copies
+pub mod Replicas
+pub mod Course
+pub mod Texts

@@ -1,0 +1,4 @@
+pub mod Written
+pub mod Followed
+pub mod Laws
+pub mod Kept
