@@ -13,7 +13,8 @@ use vi_lines::Who;
 use vi_run::{Free, Gate, Point};
 use vi_threaded::{Ended, top};
 
-const USAGE: &[u8] = b"usage: viommu run W | sim S T | one | check | make N | load N W\n";
+const USAGE: &[u8] =
+    b"usage: viommu run W | sim S T | one | check | make N | load N W | dirty K W | trace\n";
 
 /// The status of a call of the program that has ended. The run that it hands back is dropped here.
 fn status_of(ended: Ended) -> Status {
@@ -32,7 +33,23 @@ fn called<R: Threads + Wait + Sync, G: Gate + Sync>(
     status_of(top(rt, alloc, words, source, sink, gate))
 }
 
-/// What a call of the program comes to: the status, and what the sink took.
+/// What a call of the program comes to, where these reads and writes fail: the status, and what the sink took.
+pub(crate) fn ended_with<R: Threads + Wait + Sync, G: Gate + Sync>(
+    rt: &R,
+    alloc: Global,
+    line: &str,
+    input: &[u8],
+    gate: &G,
+    read_fails: &[u32],
+    write_fails: &[u32],
+) -> Result<(Status, Vec<u8>), Fail> {
+    let words = split(alloc, line)?;
+    let (mut source, mut sink) = outside(alloc, input, read_fails, 99999, write_fails)?;
+    let status = called(rt, alloc, &words, &mut source, &mut sink, gate);
+    Ok((status, Vec::from_slice(alloc, sink.taken())?))
+}
+
+/// What a call of the program comes to, where nothing fails.
 fn ended<R: Threads + Wait + Sync, G: Gate + Sync>(
     rt: &R,
     alloc: Global,
@@ -40,10 +57,7 @@ fn ended<R: Threads + Wait + Sync, G: Gate + Sync>(
     input: &[u8],
     gate: &G,
 ) -> Result<(Status, Vec<u8>), Fail> {
-    let words = split(alloc, line)?;
-    let (mut source, mut sink) = outside(alloc, input, &[], 99999, &[])?;
-    let status = called(rt, alloc, &words, &mut source, &mut sink, gate);
-    Ok((status, Vec::from_slice(alloc, sink.taken())?))
+    ended_with(rt, alloc, line, input, gate, &[], &[])
 }
 
 #[test]
@@ -131,6 +145,14 @@ fn refused_scripts_are_not_run(rt: HostRuntime) -> Result<(), Fail> {
     let (status, taken) = ended(&rt, rt.alloc(), "run 2", b"memory 1\nendpoint", &Free)?;
     assert_eq!(rt; status.number(), 3);
     assert_eq!(rt; taken.as_slice(), b"bad script line 2: word\n".as_slice());
+    Ok(())
+}
+
+#[test]
+fn traces_make_no_run(rt: HostRuntime) -> Result<(), Fail> {
+    let (status, taken) = ended(&rt, rt.alloc(), "trace", b"up 00\n", &Free)?;
+    assert_eq!(rt; status, Status::Wrong);
+    assert_eq!(rt; taken.as_slice(), b"breaks 1 frame\n".as_slice());
     Ok(())
 }
 

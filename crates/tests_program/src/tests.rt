@@ -27,7 +27,7 @@ pub(crate) fn split(alloc: Global, line: &str) -> Result<Vec<String>, Fail> {
 }
 
 /// A driver maps a page, and a back end writes and reads through it.
-const FIRST: &[u8] = b"memory 1
+pub(crate) const FIRST: &[u8] = b"memory 1
 endpoint 7
 d0 attach 1 7
 d0 map 1 0x1000 0x1fff 0x0 rw
@@ -35,7 +35,7 @@ b7 write 0x1000 61626364 after d0.2
 b7 read 0x1000 4
 ";
 
-const FIRST_REPORT: &[u8] = b"viommu history 4
+pub(crate) const FIRST_REPORT: &[u8] = b"viommu history 4
 1 d0.1 status 0
 2 d0.2 status 0
 3 b7.1.1 wrote
@@ -125,7 +125,8 @@ fn reports_and_refusals(rt: HostRuntime) -> Result<(), Fail> {
 #[test]
 fn other_words_are_no_form(rt: HostRuntime) -> Result<(), Fail> {
     let alloc = rt.alloc();
-    let usage = b"usage: viommu run W | sim S T | one | check | make N | load N W\n".as_slice();
+    let usage =
+        b"usage: viommu run W | sim S T | one | check | make N | load N W | dirty K W | trace\n".as_slice();
     let lines = [
         "one two",
         "sim",
@@ -133,6 +134,7 @@ fn other_words_are_no_form(rt: HostRuntime) -> Result<(), Fail> {
         "sim 0 1000001",
         "sim 18446744073709551616 0",
         "sim 0 0 0",
+        "trace 1",
     ];
     for line in lines {
         let (status, taken) = ran(alloc, line, FIRST, &[], 999, &[])?;
@@ -194,6 +196,24 @@ pub(crate) fn is_named(case: &str, names: &[&str]) -> bool {
     }
 }
 
+/// Whether there is a case of this name.
+fn is_case(name: &str) -> bool {
+    ONE.split("\ncase ").any(|case| is_named(case, &[name]))
+}
+
+// So that a misspelt name isn't passed over.
+#[test]
+fn every_picked_case_is_there(rt: HostRuntime) -> Result<(), Fail> {
+    for name in SAME {
+        assert!(rt; is_case(name), "{name}");
+    }
+    for name in ALWAYS {
+        assert!(rt; is_case(name), "{name}");
+    }
+    assert!(rt; is_case("nothing"));
+    Ok(())
+}
+
 #[test]
 fn sim_replies_as_one_where_nothing_waits(rt: HostRuntime) -> Result<(), Fail> {
     for case in ONE.split("\ncase ") {
@@ -226,10 +246,33 @@ fn sim_ends_on_a_load_script(rt: HostRuntime) -> Result<(), Fail> {
     Ok(())
 }
 
+/// The status that goes with a text of `check`.
+fn verdict_number(text: &str) -> u8 {
+    if text.starts_with("legal") {
+        0
+    } else if text.starts_with("bad script") {
+        3
+    } else if text.starts_with("bad report") {
+        10
+    } else {
+        7
+    }
+}
+
+/// Whether `check` writes the text of the case and ends with its status.
+fn is_judged(alloc: Global, case: &str) -> Result<bool, Fail> {
+    let Some((head, text)) = case.split_once("writes\n") else {
+        return Ok(false);
+    };
+    let (status, taken) = ran(alloc, "check", script_of(head).as_bytes(), &[], 9999, &[])?;
+    let same = trimmed(taken.as_slice()) == trimmed(text.as_bytes());
+    Ok(same && status.number() == verdict_number(text))
+}
+
 #[test]
 fn check_gives_its_verdicts(rt: HostRuntime) -> Result<(), Fail> {
     for case in CHECK.split("\ncase ") {
-        assert!(rt; is_written(rt.alloc(), "check", case)?, "{case}");
+        assert!(rt; is_judged(rt.alloc(), case)?, "{case}");
     }
     Ok(())
 }
@@ -293,9 +336,11 @@ fn load_scripts_have_their_sums(rt: HostRuntime) -> Result<(), Fail> {
 fn too_long_input_is_refused(rt: HostRuntime) -> Result<(), Fail> {
     let alloc = rt.alloc();
     let input = vec![in alloc; b'#'; 1048577]?;
-    let (status, taken) = ran(alloc, "one", &input, &[], 999, &[])?;
-    assert_eq!(rt; status, Status::TooLong);
-    assert_eq!(rt; taken.as_slice(), b"input too long\n".as_slice());
+    for words in ["one", "trace"] {
+        let (status, taken) = ran(alloc, words, &input, &[], 999, &[])?;
+        assert_eq!(rt; status, Status::TooLong, "{words}");
+        assert_eq!(rt; taken.as_slice(), b"input too long\n".as_slice(), "{words}");
+    }
     Ok(())
 }
 
@@ -362,7 +407,7 @@ fn status_numbers_and_texts(rt: HostRuntime) -> Result<(), Fail> {
         (
             Status::Usage,
             2,
-            b"usage: viommu run W | sim S T | one | check | make N | load N W\n",
+            b"usage: viommu run W | sim S T | one | check | make N | load N W | dirty K W | trace\n",
         ),
         (refused, 3, b"bad script line 10000: limit\n"),
         (Status::TooLong, 4, b"input too long\n"),
@@ -371,6 +416,7 @@ fn status_numbers_and_texts(rt: HostRuntime) -> Result<(), Fail> {
         (Status::Wrong, 7, b""),
         (Status::OutOfMemory, 8, b""),
         (Status::BadReport { line: 12 }, 10, b"bad report line 12\n"),
+        (Status::BadTrace { line: 12 }, 14, b"bad trace line 12\n"),
     ];
     for (status, number, text) in cases {
         assert_eq!(rt; status.number(), number);

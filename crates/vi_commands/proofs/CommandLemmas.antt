@@ -8,9 +8,10 @@ use Rattle.std.proofs.lemmas.Slice.Eq.{bytes_eq-Decides}
 use Rattle.vi_words.specs.Numbers.{number_of}
 use Rattle.vi_commands.specs.Command.{sim_for, sim_of, make_for, make_of, alone, named, command_of, command_in, IsForm}
 use Rattle.vi_commands.specs.declared.command.TheConstants.{MOST_MOVES}
-use Rattle.vi_commands.specs.declared.command.Command.TheVariants.{Script, Make}
-use Rattle.vi_commands.specs.declared.command.Task.{Task}
+use Rattle.vi_commands.specs.declared.command.Command.{Command}
+use Rattle.vi_commands.specs.declared.command.Command.TheVariants.{Script, Text, Make}
 use Rattle.vi_commands.specs.declared.command.Task.TheVariants.{Sim, One, Check}
+use Rattle.vi_commands.specs.declared.command.TextTask.TheVariants.{Trace}
 
 -- only two words stand behind `sim`
 pub sim_of_short : {A : Type 0} (words : List (String A)) → length words < 2 → sim_of (map string_bytes words) ≡ None
@@ -68,19 +69,20 @@ sim_form (generator_seed ∷ []) = tt
 sim_form (generator_seed ∷ moves ∷ []) = schedule_form (number_of generator_seed) (number_of moves)
 sim_form (generator_seed ∷ moves ∷ more ∷ words) = tt
 
-alone_form : (task : Task) (words : List (List ℕ)) → IsForm (alone task words)
-alone_form task [] = tt
-alone_form task (more ∷ words) = tt
+alone_form : (command : Command) (words : List (List ℕ)) → IsForm (Some command) → IsForm (alone command words)
+alone_form command [] form = form
+alone_form command (more ∷ words) form = tt
 
 named_form : (name : List ℕ) (words : List (List ℕ)) → IsForm (named name words)
-named_form name words = go (bytes_eq name (codes "sim")) (bytes_eq name (codes "one")) (bytes_eq name (codes "check")) (bytes_eq name (codes "make"))
+named_form name words = go (bytes_eq name (codes "sim")) (bytes_eq name (codes "one")) (bytes_eq name (codes "check")) (bytes_eq name (codes "make")) (bytes_eq name (codes "trace"))
   where
-    go : (a b c d : Bool) → IsForm (cond a (sim_of words) (cond b (alone One words) (cond c (alone Check words) (cond d (make_of words) None))))
-    go true b c d = sim_form words
-    go false true c d = alone_form One words
-    go false false true d = alone_form Check words
-    go false false false true = make_form words
-    go false false false false = tt
+    go : (a b c d e : Bool) → IsForm (cond a (sim_of words) (cond b (alone (Script One) words) (cond c (alone (Script Check) words) (cond d (make_of words) (cond e (alone (Text Trace) words) None)))))
+    go true b c d e = sim_form words
+    go false true c d e = alone_form (Script One) words tt
+    go false false true d e = alone_form (Script Check) words tt
+    go false false false true e = make_form words
+    go false false false false true = alone_form (Text Trace) words tt
+    go false false false false false = tt
 
 command_form : (words : List (List ℕ)) → IsForm (command_of words)
 command_form [] = tt
@@ -94,6 +96,6 @@ other_name name text other = false_from_ne_true (bytes_eq name text) (λ same. o
 
 -- no other name is one of a command
 pub named_none : (name : List ℕ) (words : List (List ℕ)) → (name ≡ codes "sim" → ⊥) → (name ≡ codes "one" → ⊥) → (name ≡ codes "check" → ⊥) → (name ≡ codes "make" → ⊥)
-    → None ≡ named name words
-named_none name words sim one check make =
-    rw (other_name name (codes "sim") sim, other_name name (codes "one") one, other_name name (codes "check") check, other_name name (codes "make") make) refl
+    → (name ≡ codes "trace" → ⊥) → None ≡ named name words
+named_none name words sim one check make trace =
+    rw (other_name name (codes "sim") sim, other_name name (codes "one") one, other_name name (codes "check") check, other_name name (codes "make") make, other_name name (codes "trace") trace) refl

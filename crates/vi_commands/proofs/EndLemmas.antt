@@ -17,23 +17,33 @@ use Rattle.vi_check.proofs.LegalLemmas.{legal_exactly}
 use Rattle.vi_sim.specs.Simulated.{simulated}
 use Rattle.vi_order.proofs.Unmapped.{unmaps_hold}
 use Rattle.vi_make.specs.LoadScript.{load_script}
-use Rattle.vi_commands.specs.Accepted.{accepts, limit_of, task_of}
+use Rattle.vi_trace.specs.Traces.{trace}
+use Rattle.vi_trace.specs.declared.finding.Finding.{Finding}
+use Rattle.vi_trace.specs.declared.finding.Finding.TheVariants.{Held, Broken}
+use Rattle.vi_trace.specs.declared.trace.TraceLine.{TraceLine}
+use Rattle.vi_trace.proofs.Granted.{uses_granted}
+use Rattle.vi_trace.proofs.Outlives.{nothing_outlives}
+use Rattle.vi_commands.specs.Accepted.{accepts, limit_of, task_of, text_task_of, input_limit}
 use Rattle.vi_commands.specs.Causes.{Rose}
 use Rattle.vi_commands.specs.Input.{ReadsAll}
 use Rattle.vi_commands.specs.Judged.{judged_report}
 use Rattle.vi_commands.specs.OneThread.{one_thread}
 use Rattle.vi_commands.specs.Output.{TakesProperPrefix}
 use Rattle.vi_commands.specs.Status.{status_text}
-use Rattle.vi_commands.specs.Work.{Sims, Judges, Answers, sims, replies, bad_report, legal, wrong, Does, took, refused}
-use Rattle.vi_commands.specs.Top.{Outside, Works, IsTooMuch, IsDue, usage, too_long, worked, made, IsFault, IsJudged, WritesReport, WritesVerdict, Writes, IsRefusedAt, IsBadReport, CutsText, IsTooLongPast, verdict_status, report_status, IsDone, IsDoneWithin, IsRefusedWithin, Ends, delivered, cut, not_read, no_memory}
+use Rattle.vi_commands.specs.Work.{Sims, Judges, Answers, sims, replies, bad_report, legal, wrong, Does, took, refused, finding_status, TellsOf, finds, no_trace}
+use Rattle.vi_commands.specs.Top.{Outside, Works, Tells, IsTooMuch, IsDue, usage, too_long, worked, told, made, IsFault, IsJudged, WritesReport, WritesVerdict, WritesHeld, WritesBroken, WritesWrong, judged, broken, Writes, IsRefusedAt, IsBadReport, IsBadTrace, CutsText, IsTooLongPast, verdict_status, report_status, IsDone, IsDoneWithin, IsRefusedWithin, IsTraced, IsTold, IsToldWithin, Ends, delivered, cut, not_read, no_memory}
 use Rattle.vi_commands.specs.declared.command.Command.{Command}
-use Rattle.vi_commands.specs.declared.command.Command.TheVariants.{Make}
+use Rattle.vi_commands.specs.declared.command.Command.TheVariants.{Script, Text, Make}
 use Rattle.vi_commands.specs.declared.command.Task.{Task}
 use Rattle.vi_commands.specs.declared.command.Task.TheVariants.{Sim, One, Check}
+use Rattle.vi_commands.specs.declared.command.TextTask.{TextTask}
+use Rattle.vi_commands.specs.declared.command.TextTask.TheVariants.{Trace}
 use Rattle.vi_commands.specs.declared.status.Status.{Status}
-use Rattle.vi_commands.specs.declared.status.Status.TheVariants.{Ok, Usage, BadScript, TooLong, ReadFault, WriteFault, OutOfMemory, Wrong, BadReport}
+use Rattle.vi_commands.specs.declared.status.Status.TheVariants.{Ok, Usage, BadScript, TooLong, ReadFault, WriteFault, OutOfMemory, Wrong, BadReport, BadTrace}
+use Rattle.vi_commands.specs.declared.top.TheConstants.{INPUT_LIMIT}
 use Rattle.vi_commands.proofs.AcceptedLemmas.{accepts-valid}
 use Rattle.vi_commands.proofs.OneLemmas.{one_thread-legal, one_thread-records}
+use Rattle.vi_commands.proofs.OneOrdered.{one_thread-ordered}
 
 -- the text that is due is written, or the call ends with a write fault
 pub Ends-from_deliver : (command : Option Command) (old new : Outside) (due result : Status) (text : List ℕ) → IsDue command old.left new.left due text
@@ -69,6 +79,7 @@ IsWorkStatus Ok = Unit {0}
 IsWorkStatus (BadScript _ _) = Unit {0}
 IsWorkStatus Wrong = Unit {0}
 IsWorkStatus (BadReport _) = Unit {0}
+IsWorkStatus (BadTrace _) = Unit {0}
 IsWorkStatus _ = ⊥
 
 answers_status : {task : Task} {input : List ℕ} {s : ScriptValue} {status : Status} {answer : List ℕ} → Answers task input s status answer → IsWorkStatus status
@@ -82,11 +93,24 @@ does_status : {task : Task} {input : List ℕ} {status : Status} {answer : List 
 does_status (took s is answers) = answers_status answers
 does_status (refused bad is st a) = subst IsWorkStatus (sym st) tt
 
+finding_work : (f : Finding) → IsWorkStatus (finding_status f)
+finding_work Held = tt
+finding_work (Broken line rule) = tt
+
+tells_status : {task : TextTask} {input : List ℕ} {status : Status} {answer : List ℕ} → TellsOf task input status answer → IsWorkStatus status
+tells_status (finds _ lines f is j st a) = subst IsWorkStatus (sym st) (finding_work f)
+tells_status (no_trace _ line r st a) = subst IsWorkStatus (sym st) tt
+
+-- and a text is written with it
+pub tells_unfailed : {task : TextTask} {input : List ℕ} {status : Status} {answer : List ℕ} → TellsOf task input status answer → status ≢ WriteFault
+tells_unfailed tells is = subst IsWorkStatus is (tells_status tells)
+
 due_not : {command : Option Command} {old new : Option (List ℕ)} {status : Status} {text : List ℕ} (other : Status) → (IsWorkStatus other → ⊥) → (other ≡ Usage → ⊥) → (other ≡ TooLong → ⊥)
     → IsDue command old new status text → status ≡ other → ⊥
 due_not other no_work no_usage no_length (usage none st a) is = no_usage (sym is ∙ st)
 due_not other no_work no_usage no_length (too_long much st a) is = no_length (sym is ∙ st)
 due_not other no_work no_usage no_length (worked w) is = no_work (subst IsWorkStatus is (does_status w.done))
+due_not other no_work no_usage no_length (told w) is = no_work (subst IsWorkStatus is (tells_status w.done))
 due_not other no_work no_usage no_length (made rounds form st a) is = no_work (subst IsWorkStatus (sym st ∙ is) tt)
 
 not_none : {A : Type 0} {o : Option A} → IsSome o → o ≡ None → ⊥
@@ -98,6 +122,38 @@ no_task none is = absurd (cc (sym (ap task_of none) ∙ is))
 
 make_task : {command : Option Command} {rounds : ℕ} {task : Task} → command ≡ Some (Make rounds) → task_of command ≡ Some task → ⊥
 make_task form is = absurd (cc (sym (ap task_of form) ∙ is))
+
+no_text : {command : Option Command} {task : TextTask} → command ≡ None → text_task_of command ≡ Some task → ⊥
+no_text none is = absurd (cc (sym (ap text_task_of none) ∙ is))
+
+make_text : {command : Option Command} {rounds : ℕ} {task : TextTask} → command ≡ Some (Make rounds) → text_task_of command ≡ Some task → ⊥
+make_text form is = absurd (cc (sym (ap text_task_of form) ∙ is))
+
+-- an input has a script, or it has none
+one_task : (command : Option Command) {task : Task} {text_task : TextTask} → task_of command ≡ Some task → text_task_of command ≡ Some text_task → ⊥
+one_task None is other = absurd (cc is)
+one_task (Some (Script task)) is other = absurd (cc other)
+one_task (Some (Text task)) is other = absurd (cc is)
+one_task (Some (Make rounds)) is other = absurd (cc is)
+
+-- the limit of a command is that of its task
+no_limit : {command : Option Command} {limit : ℕ} → command ≡ None → input_limit command ≡ Some limit → ⊥
+no_limit none is = absurd (cc (sym (ap input_limit none) ∙ is))
+
+make_limit : {command : Option Command} {rounds limit : ℕ} → command ≡ Some (Make rounds) → input_limit command ≡ Some limit → ⊥
+make_limit form is = absurd (cc (sym (ap input_limit form) ∙ is))
+
+task_limit : (command : Option Command) (task : Task) → task_of command ≡ Some task → input_limit command ≡ Some (limit_of task)
+task_limit None task is = absurd (cc is)
+task_limit (Some (Script own)) task is = let same : own ≡ task = cc is in ap (λ (t : Task). Some (limit_of t)) same
+task_limit (Some (Text own)) task is = absurd (cc is)
+task_limit (Some (Make rounds)) task is = absurd (cc is)
+
+text_limit : (command : Option Command) (task : TextTask) → text_task_of command ≡ Some task → input_limit command ≡ Some INPUT_LIMIT
+text_limit None task is = absurd (cc is)
+text_limit (Some (Script own)) task is = absurd (cc is)
+text_limit (Some (Text own)) task is = refl
+text_limit (Some (Make rounds)) task is = absurd (cc is)
 
 -- the text of a status that isn't Ok or Wrong is its own
 answers_text : {task : Task} {input : List ℕ} {s : ScriptValue} {status : Status} {answer : List ℕ} → Answers task input s status answer → status ≢ Ok → status ≢ Wrong → answer ≡ status_text status
@@ -111,10 +167,19 @@ does_text : {task : Task} {input : List ℕ} {status : Status} {answer : List �
 does_text (took s is answers) not_ok not_wrong = answers_text answers not_ok not_wrong
 does_text (refused bad is st a) not_ok not_wrong = a
 
+finding_said : (f : Finding) → finding_status f ≢ Ok → finding_status f ≢ Wrong → ⊥
+finding_said Held not_ok not_wrong = not_ok refl
+finding_said (Broken line rule) not_ok not_wrong = not_wrong refl
+
+tells_text : {task : TextTask} {input : List ℕ} {status : Status} {answer : List ℕ} → TellsOf task input status answer → status ≢ Ok → status ≢ Wrong → answer ≡ status_text status
+tells_text (finds _ lines f is j st a) not_ok not_wrong = absurd (finding_said f (λ e. not_ok (st ∙ e)) (λ e. not_wrong (st ∙ e)))
+tells_text (no_trace _ line r st a) not_ok not_wrong = a
+
 due_text : {command : Option Command} {old new : Option (List ℕ)} {status : Status} {text : List ℕ} → IsDue command old new status text → status ≢ Ok → status ≢ Wrong → text ≡ status_text status
 due_text (usage none s t) not_ok not_wrong = t ∙ ap status_text (sym s)
 due_text (too_long much s t) not_ok not_wrong = t ∙ ap status_text (sym s)
 due_text (worked w) not_ok not_wrong = does_text w.done not_ok not_wrong
+due_text (told w) not_ok not_wrong = tells_text w.done not_ok not_wrong
 due_text (made rounds form st t) not_ok not_wrong = absurd (not_ok st)
 
 -- nothing more was taken
@@ -124,6 +189,9 @@ nothing_taken old new status kept none = rw none (Appends-kept old old new [] (A
 -- the work's input is what the source told to be left
 told_input : {command : Option Command} {new : Option (List ℕ)} {status : Status} {text : List ℕ} (left : List ℕ) (w : Works command (Some left) new status text) → w.input ≡ left
 told_input left w = w.read.0
+
+told_trace : {command : Option Command} {new : Option (List ℕ)} {status : Status} {text : List ℕ} (left : List ℕ) (w : Tells command (Some left) new status text) → w.input ≡ left
+told_trace left w = w.read.0
 
 IsFault-from : (fault status : Status) → status ≡ fault → IsFault fault → IsFault status
 IsFault-from fault status is f = subst IsFault (sym is) f
@@ -140,6 +208,20 @@ other_status (verdicts.Extra entry) other = refl
 other_status (verdicts.Missing caller line part) other = refl
 other_status (verdicts.Faults at) other = refl
 
+-- a report is refused by `check` alone, and a trace by `trace`
+tells_no_report : {task : TextTask} {input : List ℕ} {status : Status} {answer : List ℕ} {line : ℕ} → TellsOf task input status answer → status ≡ BadReport line → ⊥
+tells_no_report {status = status} (finds _ lines Held found j st a) is = let other : status ≡ Ok = st in absurd (cc (other, is))
+tells_no_report {status = status} (finds _ lines (Broken at rule) found j st a) is = let other : status ≡ Wrong = st in absurd (cc (other, is))
+tells_no_report (no_trace _ at r st a) is = absurd (cc (st, is))
+
+does_no_trace : {task : Task} {input : List ℕ} {status : Status} {answer : List ℕ} {line : ℕ} → Does task input status answer → status ≡ BadTrace line → ⊥
+does_no_trace (took s accepted (sims _ _ _ d st)) is = absurd (cc (st, is))
+does_no_trace (took s accepted (replies _ d st)) is = absurd (cc (st, is))
+does_no_trace (took s accepted (bad_report _ l r st a)) is = absurd (cc (st, is))
+does_no_trace (took s accepted (legal _ j v st)) is = absurd (cc (st, is))
+does_no_trace (took s accepted (wrong _ j v st)) is = absurd (cc (st, is))
+does_no_trace (refused bad r st a) is = absurd (cc (st, is))
+
 -- what one schedule writes is what the same one writes
 abbrev SimsAs : ScriptValue → List ℕ → Task → Type 0
 SimsAs s answer (Sim generator_seed moves) = Sims s generator_seed moves answer
@@ -154,6 +236,7 @@ module _ (command : Option Command) (old new : Outside) (status : Status) where
   usage_only (delivered text (usage none _ _) _) is = none
   usage_only (delivered text (too_long _ s _) _) is = absurd (cc (s, is))
   usage_only (delivered text (worked w) _) is = absurd (subst IsWorkStatus is (does_status w.done))
+  usage_only (delivered text (told w) _) is = absurd (subst IsWorkStatus is (tells_status w.done))
   usage_only (delivered text (made _ _ s _) _) is = absurd (cc (s, is))
   usage_only (cut _ _ s) is = absurd (cc (s, is))
   usage_only (not_read _ _ _ s) is = absurd (cc (s, is))
@@ -161,17 +244,19 @@ module _ (command : Option Command) (old new : Outside) (status : Status) where
 
   pub usage_or_fault : Ends command old new status → command ≡ None → (status ≡ Usage) ⊎ (status ≡ WriteFault)
   usage_or_fault (delivered text (usage _ s _) _) none = inl s
-  usage_or_fault (delivered text (too_long much _ _) _) none = absurd (no_task none much.is_task)
+  usage_or_fault (delivered text (too_long much _ _) _) none = absurd (no_limit none much.is_limit)
   usage_or_fault (delivered text (worked w) _) none = absurd (no_task none w.is_task)
+  usage_or_fault (delivered text (told w) _) none = absurd (no_text none w.is_task)
   usage_or_fault (delivered text (made _ form _ _) _) none = absurd (cc (form, none))
   usage_or_fault (cut _ _ s) none = inr s
-  usage_or_fault (not_read some _ _ _) none = absurd (not_none some (ap task_of none))
+  usage_or_fault (not_read some _ _ _) none = absurd (not_none some (ap input_limit none))
   usage_or_fault (no_memory some _ _) none = absurd (not_none some none)
 
   pub past_only : Ends command old new status → status ≡ TooLong → IsTooMuch command old.left
   past_only (delivered text (usage _ s _) _) is = absurd (cc (s, is))
   past_only (delivered text (too_long much _ _) _) is = much
   past_only (delivered text (worked w) _) is = absurd (subst IsWorkStatus is (does_status w.done))
+  past_only (delivered text (told w) _) is = absurd (subst IsWorkStatus is (tells_status w.done))
   past_only (delivered text (made _ _ s _) _) is = absurd (cc (s, is))
   past_only (cut _ _ s) is = absurd (cc (s, is))
   past_only (not_read _ _ _ s) is = absurd (cc (s, is))
@@ -180,8 +265,9 @@ module _ (command : Option Command) (old new : Outside) (status : Status) where
   -- the load script was written, or nothing was made of it
   pub made_or_fault : Ends command old new status → (rounds : ℕ) → command ≡ Some (Make rounds) → (status ≡ Ok) ⊎ IsFault status
   made_or_fault (delivered text (usage none _ _) _) rounds is = absurd (cc (none, is))
-  made_or_fault (delivered text (too_long much _ _) _) rounds is = absurd (make_task is much.is_task)
+  made_or_fault (delivered text (too_long much _ _) _) rounds is = absurd (make_limit is much.is_limit)
   made_or_fault (delivered text (worked w) _) rounds is = absurd (make_task is w.is_task)
+  made_or_fault (delivered text (told w) _) rounds is = absurd (make_text is w.is_task)
   made_or_fault (delivered text (made _ _ s _) _) rounds is = inl s
   made_or_fault (cut _ _ s) rounds is = inr (IsFault-from WriteFault status s tt)
   made_or_fault (not_read _ _ _ s) rounds is = inr (IsFault-from ReadFault status s tt)
@@ -189,8 +275,9 @@ module _ (command : Option Command) (old new : Outside) (status : Status) where
 
   pub script_written : Ends command old new status → (rounds : ℕ) → command ≡ Some (Make rounds) → status ≡ Ok → Appends old.taken new.taken (load_script rounds)
   script_written (delivered text (usage none _ _) _) rounds form is = absurd (cc (none, form))
-  script_written (delivered text (too_long much _ _) _) rounds form is = absurd (make_task form much.is_task)
+  script_written (delivered text (too_long much _ _) _) rounds form is = absurd (make_limit form much.is_limit)
   script_written (delivered text (worked w) _) rounds form is = absurd (make_task form w.is_task)
+  script_written (delivered text (told w) _) rounds form is = absurd (make_text form w.is_task)
   script_written (delivered text (made others made_form _ t) taken) rounds form is =
       let same : others ≡ rounds = cc (made_form, form) in
       subst (λ (bytes : List ℕ). Appends old.taken new.taken bytes) (t ∙ ap load_script same) taken
@@ -198,7 +285,7 @@ module _ (command : Option Command) (old new : Outside) (status : Status) where
   script_written (not_read _ _ _ s) rounds form is = absurd (cc (s, is))
   script_written (no_memory _ _ s) rounds form is = absurd (cc (s, is))
 
-  -- the work of a command that reads its input
+  -- the work of a command whose input has a script
   record WorkOf (task : Task) : Type 0 where
     text : List ℕ
     input : List ℕ
@@ -212,6 +299,7 @@ module _ (command : Option Command) (old new : Outside) (status : Status) where
   works_of {text = text} is task form (worked w) taken =
       let same : w.task ≡ task = cc (w.is_task, form) in
       record { text = text; input = w.input; read = w.read; taken = taken; done = subst (λ (t : Task). Does t w.input status text) same w.done }
+  works_of is task form (told w) taken = absurd (one_task command form w.is_task)
   works_of is task form (made _ make _ _) taken = absurd (make_task make form)
 
   -- the work was done, and the sink took its whole text
@@ -221,14 +309,41 @@ module _ (command : Option Command) (old new : Outside) (status : Status) where
   worked_out (not_read _ _ _ s) is task form = absurd (subst IsWorkStatus s is)
   worked_out (no_memory _ _ s) is task form = absurd (subst IsWorkStatus s is)
 
+  -- the work of a command whose input has none
+  record TextOf (task : TextTask) : Type 0 where
+    text : List ℕ
+    input : List ℕ
+    read : ReadsAll old.left new.left input
+    taken : Appends old.taken new.taken text
+    done : TellsOf task input status text
+
+  text_of : {text : List ℕ} → IsWorkStatus status → (task : TextTask) → text_task_of command ≡ Some task → IsDue command old.left new.left status text → Appends old.taken new.taken text → TextOf task
+  text_of is task form (usage none _ _) taken = absurd (no_text none form)
+  text_of is task form (too_long _ s _) taken = absurd (subst IsWorkStatus s is)
+  text_of is task form (worked w) taken = absurd (one_task command w.is_task form)
+  text_of {text = text} is task form (told w) taken =
+      let same : w.task ≡ task = cc (w.is_task, form) in
+      record { text = text; input = w.input; read = w.read; taken = taken; done = subst (λ (t : TextTask). TellsOf t w.input status text) same w.done }
+  text_of is task form (made _ make _ _) taken = absurd (make_text make form)
+
+  texted : Ends command old new status → IsWorkStatus status → (task : TextTask) → text_task_of command ≡ Some task → TextOf task
+  texted (delivered text due taken) is task form = text_of is task form due taken
+  texted (cut _ _ s) is task form = absurd (subst IsWorkStatus s is)
+  texted (not_read _ _ _ s) is task form = absurd (subst IsWorkStatus s is)
+  texted (no_memory _ _ s) is task form = absurd (subst IsWorkStatus s is)
+
   -- which task it was, where a command's work has this status
-  task_due : {text : List ℕ} → IsWorkStatus status → status ≢ Ok → IsDue command old.left new.left status text → (task : Task) × (task_of command ≡ Some task)
+  abbrev SomeTask : Type 0
+  SomeTask = ((task : Task) × (task_of command ≡ Some task)) ⊎ ((task : TextTask) × (text_task_of command ≡ Some task))
+
+  task_due : {text : List ℕ} → IsWorkStatus status → status ≢ Ok → IsDue command old.left new.left status text → SomeTask
   task_due is not_ok (usage _ s _) = absurd (subst IsWorkStatus s is)
   task_due is not_ok (too_long _ s _) = absurd (subst IsWorkStatus s is)
-  task_due is not_ok (worked w) = (w.task, w.is_task)
+  task_due is not_ok (worked w) = inl (w.task, w.is_task)
+  task_due is not_ok (told w) = inr (w.task, w.is_task)
   task_due is not_ok (made _ _ s _) = absurd (not_ok s)
 
-  task_at : Ends command old new status → IsWorkStatus status → status ≢ Ok → (task : Task) × (task_of command ≡ Some task)
+  task_at : Ends command old new status → IsWorkStatus status → status ≢ Ok → SomeTask
   task_at (delivered text due taken) is not_ok = task_due is not_ok due
   task_at (cut _ _ s) is not_ok = absurd (subst IsWorkStatus s is)
   task_at (not_read _ _ _ s) is not_ok = absurd (subst IsWorkStatus s is)
@@ -271,6 +386,7 @@ module _ (command : Option Command) (old new : Outside) (status : Status) where
     made = d.made;
     typed = d.typed;
     took = subst (λ (t : List ℕ). Appends old.taken new.taken t) d.report taken;
+    ordered = one_thread-ordered s (accepts-valid One input s accepted);
     legal = one_thread-legal s;
     records = one_thread-records s;
     unmapped = unmaps_hold s (one_thread s).entries (one_thread-legal s);
@@ -331,13 +447,17 @@ module _ (command : Option Command) (old new : Outside) (status : Status) where
   some_task : {task other : Task} → task_of command ≡ Some task → task ≡ other → task_of command ≡ Some other
   some_task form same = form ∙ ap (λ (t : Task). Some t) same
 
-  pub report_refused : Ends command old new status → (line : ℕ) → status ≡ BadReport line → (task_of command ≡ Some Check) × IsBadReport line old.left new.left
-  report_refused ends line is =
-      let work = subst IsWorkStatus (sym is) tt in
-      let t = task_at ends work (λ ok. absurd (cc (ok, is))) in
-      let w : WorkOf t.0 = worked_out ends work t.0 t.1 in
+  report_of : Ends command old new status → (line : ℕ) → status ≡ BadReport line → SomeTask → (task_of command ≡ Some Check) × IsBadReport line old.left new.left
+  report_of ends line is (inl t) =
+      let w : WorkOf t.0 = worked_out ends (subst IsWorkStatus (sym is) tt) t.0 t.1 in
       let r = report_does t.0 line w.input w.text w.read is w.done in
       (some_task t.1 r.0, r.1)
+  report_of ends line is (inr t) =
+      let w : TextOf t.0 = texted ends (subst IsWorkStatus (sym is) tt) t.0 t.1 in
+      absurd (tells_no_report w.done is)
+
+  pub report_refused : Ends command old new status → (line : ℕ) → status ≡ BadReport line → (task_of command ≡ Some Check) × IsBadReport line old.left new.left
+  report_refused ends line is = report_of ends line is (task_at ends (subst IsWorkStatus (sym is) tt) (λ ok. absurd (cc (ok, is))))
 
   wrong_does : (task : Task) (w : WorkOf task) → status ≡ Wrong → Does task w.input status w.text → (task ≡ Check) × WritesVerdict old.left new.left old.taken new.taken
   wrong_does task w is (took s accepted (sims _ _ _ d st)) = absurd (cc (st, is))
@@ -354,13 +474,78 @@ module _ (command : Option Command) (old new : Outside) (status : Status) where
   )
   wrong_does task w is (refused bad r st a) = absurd (cc (st, is))
 
-  pub verdict_written : Ends command old new status → status ≡ Wrong → (task_of command ≡ Some Check) × WritesVerdict old.left new.left old.taken new.taken
-  verdict_written ends is =
-      let work = subst IsWorkStatus (sym is) tt in
-      let t = task_at ends work (λ ok. absurd (cc (ok, is))) in
-      let w : WorkOf t.0 = worked_out ends work t.0 t.1 in
+  -- the only task that there is without a script
+  some_trace : {task : TextTask} → text_task_of command ≡ Some task → task ≡ Trace → text_task_of command ≡ Some Trace
+  some_trace form same = form ∙ ap (λ (t : TextTask). Some t) same
+
+  held_tells : (task : TextTask) (w : TextOf task) → status ≡ Ok → TellsOf task w.input status w.text → WritesHeld old.left new.left old.taken new.taken
+  held_tells task w is (finds _ lines Held found j st a) = record {
+    input = w.input;
+    read = w.read;
+    lines = lines;
+    is_trace = found;
+    is_held = j;
+    took = subst (λ (t : List ℕ). Appends old.taken new.taken t) a w.taken;
+    obeyed = (nothing_outlives lines j, uses_granted lines j);
+  }
+  held_tells task w is (finds _ lines (Broken line rule) found j st a) = let other : status ≡ Wrong = st in absurd (cc (other, is))
+  held_tells task w is (no_trace _ line r st a) = absurd (cc (st, is))
+
+  -- a trace that holds was read
+  pub held_written : Ends command old new status → text_task_of command ≡ Some Trace → status ≡ Ok → WritesHeld old.left new.left old.taken new.taken
+  held_written ends form is =
+      let w : TextOf Trace = texted ends (subst IsWorkStatus (sym is) tt) Trace form in
+      held_tells Trace w is w.done
+
+  broken_tells : (task : TextTask) (w : TextOf task) → status ≡ Wrong → TellsOf task w.input status w.text → (task ≡ Trace) × WritesBroken old.left new.left old.taken new.taken
+  broken_tells task w is (finds _ lines Held found j st a) = let other : status ≡ Ok = st in absurd (cc (other, is))
+  broken_tells task w is (finds trace_task lines (Broken line rule) found j st a) = (
+    trace_task,
+    record {
+      input = w.input;
+      read = w.read;
+      lines = lines;
+      is_trace = found;
+      line = line;
+      rule = rule;
+      is_broken = j;
+      took = subst (λ (t : List ℕ). Appends old.taken new.taken t) a w.taken;
+    },
+  )
+  broken_tells task w is (no_trace _ line r st a) = absurd (cc (st, is))
+
+  wrong_of : Ends command old new status → status ≡ Wrong → SomeTask → WritesWrong command old.left new.left old.taken new.taken
+  wrong_of ends is (inl t) =
+      let w : WorkOf t.0 = worked_out ends (subst IsWorkStatus (sym is) tt) t.0 t.1 in
       let r = wrong_does t.0 w is w.done in
-      (some_task t.1 r.0, r.1)
+      judged (some_task t.1 r.0) r.1
+  wrong_of ends is (inr t) =
+      let w : TextOf t.0 = texted ends (subst IsWorkStatus (sym is) tt) t.0 t.1 in
+      let r = broken_tells t.0 w is w.done in
+      broken (some_trace t.1 r.0) r.1
+
+  -- a verdict or a finding says what is wrong
+  pub wrong_written : Ends command old new status → status ≡ Wrong → WritesWrong command old.left new.left old.taken new.taken
+  wrong_written ends is = wrong_of ends is (task_at ends (subst IsWorkStatus (sym is) tt) (λ ok. absurd (cc (ok, is))))
+
+  trace_tells : (task : TextTask) (line : ℕ) (w : TextOf task) → status ≡ BadTrace line → TellsOf task w.input status w.text → (task ≡ Trace) × IsBadTrace line old.left new.left
+  trace_tells task line w is (finds _ lines Held found j st a) = let other : status ≡ Ok = st in absurd (cc (other, is))
+  trace_tells task line w is (finds _ lines (Broken at rule) found j st a) = let other : status ≡ Wrong = st in absurd (cc (other, is))
+  trace_tells task line w is (no_trace trace_task l r st a) =
+      let same : l ≡ line = cc (st, is) in
+      (trace_task, record { input = w.input; read = w.read; refused = r ∙ ap (λ (n : ℕ). std.Err n) same })
+
+  trace_of : Ends command old new status → (line : ℕ) → status ≡ BadTrace line → SomeTask → (text_task_of command ≡ Some Trace) × IsBadTrace line old.left new.left
+  trace_of ends line is (inl t) =
+      let w : WorkOf t.0 = worked_out ends (subst IsWorkStatus (sym is) tt) t.0 t.1 in
+      absurd (does_no_trace w.done is)
+  trace_of ends line is (inr t) =
+      let w : TextOf t.0 = texted ends (subst IsWorkStatus (sym is) tt) t.0 t.1 in
+      let r = trace_tells t.0 line w is w.done in
+      (some_trace t.1 r.0, r.1)
+
+  pub trace_refused : Ends command old new status → (line : ℕ) → status ≡ BadTrace line → (text_task_of command ≡ Some Trace) × IsBadTrace line old.left new.left
+  trace_refused ends line is = trace_of ends line is (task_at ends (subst IsWorkStatus (sym is) tt) (λ ok. absurd (cc (ok, is))))
 
   pub read_fault_rose : Ends command old new status → status ≡ ReadFault → Rose old.read_faults new.read_faults
   read_fault_rose (delivered text due _) is = absurd (due_not ReadFault (λ work. work) (λ e. absurd (cc e)) (λ e. absurd (cc e)) due is)
@@ -388,23 +573,38 @@ module _ (command : Option Command) (old new : Outside) (status : Status) where
 
 -- where the source tells what is left
 module _ (command : Option Command) (input : List ℕ) (left_new : Option (List ℕ)) (status : Status) where
-  due_past : {text : List ℕ} (task : Task) → IsDue command (Some input) left_new status text → task_of command ≡ Some task → limit_of task < length input → status ≡ TooLong
-  due_past task (usage none _ _) form past = absurd (no_task none form)
-  due_past task (too_long _ s _) form past = s
-  due_past task (worked w) form past =
-      let same : w.task ≡ task = cc (w.is_task, form) in
-      absurd (omega (arith, past, w.within, ap limit_of same, ap length (told_input input w)))
-  due_past task (made _ make _ _) form past = absurd (make_task make form)
+  due_past : {text : List ℕ} (limit : ℕ) → IsDue command (Some input) left_new status text → input_limit command ≡ Some limit → limit < length input → status ≡ TooLong
+  due_past limit (usage none _ _) form past = absurd (no_limit none form)
+  due_past limit (too_long _ s _) form past = s
+  due_past limit (worked w) form past =
+      let same : limit_of w.task ≡ limit = cc (task_limit command w.task w.is_task, form) in
+      absurd (omega (arith, past, w.within, same, ap length (told_input input w)))
+  due_past limit (told w) form past =
+      let same : INPUT_LIMIT ≡ limit = cc (text_limit command w.task w.is_task, form) in
+      absurd (omega (arith, past, w.within, same, ap length (told_trace input w)))
+  due_past limit (made _ make _ _) form past = absurd (make_limit make form)
 
   due_does : {text : List ℕ} (task : Task) → IsDue command (Some input) left_new status text → task_of command ≡ Some task → length input ≤ limit_of task → Does task input status text
   due_does task (usage none _ _) form within = absurd (no_task none form)
   due_does task (too_long much _ _) form within =
-      let same : much.task ≡ task = cc (much.is_task, form) in
-      absurd (omega (arith, within, much.past, ap limit_of same))
+      let same : much.limit ≡ limit_of task = cc (much.is_limit, task_limit command task form) in
+      absurd (omega (arith, within, much.past, same))
   due_does {text = text} task (worked w) form within =
       let same : w.task ≡ task = cc (w.is_task, form) in
       subst (λ (i : List ℕ). Does task i status text) (told_input input w) (subst (λ (t : Task). Does t w.input status text) same w.done)
+  due_does task (told w) form within = absurd (one_task command form w.is_task)
   due_does task (made _ make _ _) form within = absurd (make_task make form)
+
+  due_tells : {text : List ℕ} (task : TextTask) → IsDue command (Some input) left_new status text → text_task_of command ≡ Some task → length input ≤ INPUT_LIMIT → TellsOf task input status text
+  due_tells task (usage none _ _) form within = absurd (no_text none form)
+  due_tells task (too_long much _ _) form within =
+      let same : much.limit ≡ INPUT_LIMIT = cc (much.is_limit, text_limit command task form) in
+      absurd (omega (arith, within, much.past, same))
+  due_tells task (worked w) form within = absurd (one_task command w.is_task form)
+  due_tells {text = text} task (told w) form within =
+      let same : w.task ≡ task = cc (w.is_task, form) in
+      subst (λ (i : List ℕ). TellsOf task i status text) (told_trace input w) (subst (λ (t : TextTask). TellsOf t w.input status text) same w.done)
+  due_tells task (made _ make _ _) form within = absurd (make_text make form)
 
 read_status : (s : ScriptValue) (input : List ℕ) (o : Outcome) → read_report (judged_report input) ≡ std.Ok o → report_status s (read_report (judged_report input)) ≡ verdict_status (verdict s o)
 read_status s input o is = ap (report_status s) is
@@ -438,9 +638,21 @@ refused_does task bad is (refused other r st a) =
     let same : other ≡ bad = cc (is, r) in
     inl (st ∙ ap (λ (b : Bad). BadScript b.line b.kind) same)
 
-too_long_from_due : (task : Task) (command : Option Command) (left new : Option (List ℕ)) (status : Status) {text : List ℕ} → IsDue command left new status text → task_of command ≡ Some task → IsTooLongPast task left status
-too_long_from_due task command None new status due form = tt
-too_long_from_due task command (Some input) new status due form = λ past. inl (due_past command input new status task due form past)
+-- a trace has the status of its finding, and a text that is none that of its line
+traced : (task : TextTask) (input : List ℕ) (status : Status) {answer : List ℕ} → TellsOf task input status answer → IsTraced (trace input) status
+traced task input status (finds _ lines f found j st a) = subst (λ (r : std.Result (List TraceLine) ℕ). IsTraced r status) (sym found) (f, j, st)
+traced task input status (no_trace _ line r st a) = subst (λ (r : std.Result (List TraceLine) ℕ). IsTraced r status) (sym r) st
+
+told_of : (task : TextTask) (input : List ℕ) (status : Status) {answer : List ℕ} → TellsOf task input status answer → IsTold task input status
+told_of Trace input status tells = traced Trace input status tells
+
+too_long_from_due : (limit : ℕ) (command : Option Command) (left new : Option (List ℕ)) (status : Status) {text : List ℕ} → IsDue command left new status text → input_limit command ≡ Some limit → IsTooLongPast limit left status
+too_long_from_due limit command None new status due form = tt
+too_long_from_due limit command (Some input) new status due form = λ past. inl (due_past command input new status limit due form past)
+
+told_from_due : (task : TextTask) (command : Option Command) (left new : Option (List ℕ)) (status : Status) {text : List ℕ} → IsDue command left new status text → text_task_of command ≡ Some task → IsToldWithin task left status
+told_from_due task command None new status due form = tt
+told_from_due task command (Some input) new status due form = λ within. inl (told_of task input status (due_tells command input new status task due form within))
 
 done_from_due : (task : Task) (command : Option Command) (left new : Option (List ℕ)) (status : Status) {text : List ℕ} → IsDue command left new status text → task_of command ≡ Some task → IsDoneWithin task left status
 done_from_due task command None new status due form = tt
@@ -450,9 +662,13 @@ refused_from_due : (task : Task) (command : Option Command) (left new : Option (
 refused_from_due task command None new status due form = tt
 refused_from_due task command (Some input) new status due form = λ within bad is_bad. refused_does task bad is_bad (due_does command input new status task due form within)
 
-too_long_from_fault : (task : Task) (left : Option (List ℕ)) (fault status : Status) → status ≡ fault → IsFault fault → IsTooLongPast task left status
-too_long_from_fault task None fault status is f = tt
-too_long_from_fault task (Some input) fault status is f = λ past. inr (IsFault-from fault status is f)
+too_long_from_fault : (limit : ℕ) (left : Option (List ℕ)) (fault status : Status) → status ≡ fault → IsFault fault → IsTooLongPast limit left status
+too_long_from_fault limit None fault status is f = tt
+too_long_from_fault limit (Some input) fault status is f = λ past. inr (IsFault-from fault status is f)
+
+told_from_fault : (task : TextTask) (left : Option (List ℕ)) (fault status : Status) → status ≡ fault → IsFault fault → IsToldWithin task left status
+told_from_fault task None fault status is f = tt
+told_from_fault task (Some input) fault status is f = λ within. inr (IsFault-from fault status is f)
 
 done_from_fault : (task : Task) (left : Option (List ℕ)) (fault status : Status) → status ≡ fault → IsFault fault → IsDoneWithin task left status
 done_from_fault task None fault status is f = tt
@@ -463,11 +679,18 @@ refused_from_fault task None fault status is f = tt
 refused_from_fault task (Some input) fault status is f = λ within bad is_bad. inr (IsFault-from fault status is f)
 
 module _ (command : Option Command) (old new : Outside) (status : Status) where
-  pub too_long_or_fault : Ends command old new status → (task : Task) → task_of command ≡ Some task → IsTooLongPast task old.left status
-  too_long_or_fault (delivered text due _) task form = too_long_from_due task command old.left new.left status due form
-  too_long_or_fault (cut _ _ s) task form = too_long_from_fault task old.left WriteFault status s tt
-  too_long_or_fault (not_read _ _ _ s) task form = too_long_from_fault task old.left ReadFault status s tt
-  too_long_or_fault (no_memory _ _ s) task form = too_long_from_fault task old.left OutOfMemory status s tt
+  pub too_long_or_fault : Ends command old new status → (limit : ℕ) → input_limit command ≡ Some limit → IsTooLongPast limit old.left status
+  too_long_or_fault (delivered text due _) limit form = too_long_from_due limit command old.left new.left status due form
+  too_long_or_fault (cut _ _ s) limit form = too_long_from_fault limit old.left WriteFault status s tt
+  too_long_or_fault (not_read _ _ _ s) limit form = too_long_from_fault limit old.left ReadFault status s tt
+  too_long_or_fault (no_memory _ _ s) limit form = too_long_from_fault limit old.left OutOfMemory status s tt
+
+  -- a trace is judged, and a text that is none is refused, unless a fault comes
+  pub told_or_fault : Ends command old new status → (task : TextTask) → text_task_of command ≡ Some task → IsToldWithin task old.left status
+  told_or_fault (delivered text due _) task form = told_from_due task command old.left new.left status due form
+  told_or_fault (cut _ _ s) task form = told_from_fault task old.left WriteFault status s tt
+  told_or_fault (not_read _ _ _ s) task form = told_from_fault task old.left ReadFault status s tt
+  told_or_fault (no_memory _ _ s) task form = told_from_fault task old.left OutOfMemory status s tt
 
   -- a script is worked on, and a text that is none is refused, unless a fault comes
   pub done_or_fault : Ends command old new status → (task : Task) → task_of command ≡ Some task → IsDoneWithin task old.left status

@@ -7,5 +7,6 @@ pub mod WorkLemmas
 pub mod TakenLemmas
 pub mod ReplyLemmas
 pub mod OneLemmas
+pub mod OneOrdered
 pub mod CountLemmas
 pub mod JudgedLemmas

@@ -30,16 +30,20 @@ line_here p (a ∷ above) ls l is = go (p a) refl (line_here p above ls l is)
     go true e ih = rw e ih
     go false e ih = rw e ih
 
--- so its calls are the script's
-call_here : (s : ScriptValue) (above ls : List Line) (l : Line) (part : ℕ) → s.lines ≡ above ++ l ∷ ls
-    → call_of s l.caller (count_lines above l.caller + 1) part ≡ call_in l.caller part (Some l)
-unfolding call_of
-call_here s above ls l part is =
+-- so it is its caller's line of that number
+pub line_at : (s : ScriptValue) (above ls : List Line) (l : Line) → s.lines ≡ above ++ l ∷ ls → line_of s l.caller (count_lines above l.caller + 1) ≡ Some l
+line_at s above ls l is =
     let here : line_of s l.caller (suc (count_lines above l.caller)) ≡ Some l =
     subst (λ (all : List Line). slice_get (filter (λ k. same_caller k.caller l.caller) all) (count_lines above l.caller) ≡ Some l) (sym is)
     (line_here (λ k. same_caller k.caller l.caller) above ls l (same_caller-self l.caller)) in
     let next : count_lines above l.caller + 1 ≡ suc (count_lines above l.caller) = omega arith in
-    ap (λ (n : ℕ). call_in l.caller part (line_of s l.caller n)) next ∙ ap (call_in l.caller part) here
+    ap (λ (n : ℕ). line_of s l.caller n) next ∙ here
+
+-- and its calls are the script's
+pub call_here : (s : ScriptValue) (above ls : List Line) (l : Line) (part : ℕ) → s.lines ≡ above ++ l ∷ ls
+    → call_of s l.caller (count_lines above l.caller + 1) part ≡ call_in l.caller part (Some l)
+unfolding call_of
+call_here s above ls l part is = ap (call_in l.caller part) (line_at s above ls l is)
 
 after_more : (one : One) (calls : List Call) (c : Call) → after one (calls ++ c ∷ []) ≡ next (after one calls) c
 after_more one [] c = refl
@@ -174,7 +178,7 @@ with_lines-next done lines i l within is =
 pub with_lines-end : (done : Replied) (lines : List Line) (i : ℕ) → length lines ≤ i → with_lines done (take i lines) (drop i lines) ≡ done
 with_lines-end done lines i past = ap (λ (ls : List Line). with_lines done (take i lines) ls) (drop_all i lines past)
 
-one_more : (p : Line → Bool) (l : Line) → length (filter p (l ∷ [])) ≡ cond (p l) 1 0
+pub one_more : (p : Line → Bool) (l : Line) → length (filter p (l ∷ [])) ≡ cond (p l) 1 0
 one_more p l = go (p l) refl
   where
     go : (b : Bool) → p l ≡ b → length (filter p (l ∷ [])) ≡ cond b 1 0

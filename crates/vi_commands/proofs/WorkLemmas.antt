@@ -16,14 +16,17 @@ use Rattle.vi_script.specs.Texts.{Bad}
 use Rattle.vi_lines.specs.Legal.{IsLegalHistory, HasRecords}
 use Rattle.vi_lines.specs.Ordered.{IsOrdered}
 use Rattle.vi_sim.specs.Simulated.{simulated}
+use Rattle.vi_trace.specs.Traces.{trace}
 use Rattle.vi_commands.specs.Accepted.{accepts}
 use Rattle.vi_commands.specs.Judged.{judged_report}
 use Rattle.vi_commands.specs.OneThread.{one_thread}
 use Rattle.vi_commands.specs.Status.{status_text}
 use Rattle.vi_commands.specs.Top.{verdict_status}
-use Rattle.vi_commands.specs.Work.{Judges, Answers, sims, replies, bad_report, legal, wrong, Does, took, refused}
+use Rattle.vi_commands.specs.Work.{Judges, Answers, sims, replies, bad_report, legal, wrong, Does, took, refused, TellsOf, no_trace}
 use Rattle.vi_commands.specs.declared.command.Task.{Task}
 use Rattle.vi_commands.specs.declared.command.Task.TheVariants.{Sim, One, Check}
+use Rattle.vi_commands.specs.declared.command.TextTask.{TextTask}
+use Rattle.vi_commands.specs.declared.command.TextTask.TheVariants.{Trace}
 use Rattle.vi_commands.specs.declared.work.Answer.{Answer}
 use Rattle.vi_commands.specs.declared.status.Status.TheVariants as status
 
@@ -78,3 +81,13 @@ pub answers-verdict : (input : List ℕ) (s : ScriptValue) (o : Outcome) (r : Re
     → IfOk r (λ a. a.status ≡ verdict_status (verdict s o)) → IfOk r (λ a. a.text ≡ verdict_text (verdict s o)) → IfOk r (λ a. Answers Check input s a.status a.text)
 answers-verdict input s o (Ok a) is made st words = by_verdict input s o a is made words (verdict s o) refl st
 answers-verdict input s o (Err e) is made st words = tt
+
+-- a text that is no trace is refused
+pub tells-no_trace : (input : List ℕ) (line : ℕ) (r : Result Answer AllocError) → trace input ≡ std.Err line
+    → IfOk r (λ a. a.status ≡ status.BadTrace line) → IfOk r (λ a. a.text ≡ status_text (status.BadTrace line)) → IfOk r (λ a. TellsOf Trace input a.status a.text)
+tells-no_trace input line (Ok a) is st words = no_trace refl line is st (words ∙ ap status_text (sym st))
+tells-no_trace input line (Err e) is st words = tt
+
+-- there is one task only
+pub tells-trace : (task : TextTask) (input : List ℕ) (r : Result Answer AllocError) → IfOk r (λ a. TellsOf Trace input a.status a.text) → IfOk r (λ a. TellsOf task input a.status a.text)
+tells-trace Trace input r tells = tells

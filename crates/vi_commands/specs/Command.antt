@@ -5,9 +5,9 @@ use Rattle.std.specs.Str.{bytes_eq}
 use Rattle.vi_words.specs.Numbers.{number_of}
 use Rattle.vi_commands.specs.declared.command.TheConstants.{MOST_MOVES}
 use Rattle.vi_commands.specs.declared.command.Command.{Command}
-use Rattle.vi_commands.specs.declared.command.Command.TheVariants.{Script, Make}
-use Rattle.vi_commands.specs.declared.command.Task.{Task}
+use Rattle.vi_commands.specs.declared.command.Command.TheVariants.{Script, Text, Make}
 use Rattle.vi_commands.specs.declared.command.Task.TheVariants.{Sim, One, Check}
+use Rattle.vi_commands.specs.declared.command.TextTask.TheVariants.{Trace}
 
 -- `sim S T`: S is a number below 2^64, and T one that is at most MOST_MOVES
 abbrev pub sim_for : Option ℕ → Option ℕ → Option Command
@@ -31,17 +31,18 @@ make_of (rounds ∷ []) = make_for (number_of rounds)
 make_of words = None
 
 -- a command whose name stands alone: no word is behind it
-abbrev pub alone : Task → List (List ℕ) → Option Command
-alone task [] = Some (Script task)
-alone task words = None
+abbrev pub alone : Command → List (List ℕ) → Option Command
+alone command [] = Some command
+alone command words = None
 
 -- a command by its name and the words behind it
 abbrev pub named : List ℕ → List (List ℕ) → Option Command
 named name words =
     if bytes_eq name (codes "sim") then sim_of words else (
-    if bytes_eq name (codes "one") then alone One words else (
-    if bytes_eq name (codes "check") then alone Check words else (
-    if bytes_eq name (codes "make") then make_of words else None)))
+    if bytes_eq name (codes "one") then alone (Script One) words else (
+    if bytes_eq name (codes "check") then alone (Script Check) words else (
+    if bytes_eq name (codes "make") then make_of words else (
+    if bytes_eq name (codes "trace") then alone (Text Trace) words else None))))
 
 -- the command whose form the words are
 abbrev pub command_of : List (List ℕ) → Option Command
@@ -56,4 +57,5 @@ command_in words = command_of (map string_bytes words)
 abbrev pub IsForm : Option Command → Type 0
 IsForm None = ⊤
 IsForm (Some (Script task)) = ⊤
+IsForm (Some (Text task)) = ⊤
 IsForm (Some (Make rounds)) = (1 ≤ rounds) × (rounds ≤ 400)

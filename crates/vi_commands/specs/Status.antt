@@ -4,7 +4,7 @@ use Rattle.std.specs.Fmt.{decimal}
 use Rattle.vi_script.specs.Faults.{kind_text}
 use Rattle.vi_script.specs.declared.fault.BadKind.{BadKind}
 use Rattle.vi_commands.specs.declared.status.Status.{Status}
-use Rattle.vi_commands.specs.declared.status.Status.TheVariants.{Ok, Usage, BadScript, TooLong, ReadFault, WriteFault, OutOfMemory, Wrong, BadReport}
+use Rattle.vi_commands.specs.declared.status.Status.TheVariants.{Ok, Usage, BadScript, TooLong, ReadFault, WriteFault, OutOfMemory, Wrong, BadReport, BadTrace}
 
 -- the number with which the process ends
 abbrev pub status_number : Status → ℕ
@@ -17,6 +17,7 @@ status_number WriteFault = 6
 status_number Wrong = 7
 status_number OutOfMemory = 8
 status_number (BadReport _) = 10
+status_number (BadTrace _) = 14
 
 -- the text and LF
 abbrev pub line_of : List ℕ → List ℕ
@@ -30,11 +31,15 @@ bad_script_text line kind = line_of (codes "bad script line " ++ decimal line ++
 abbrev pub bad_report_text : ℕ → List ℕ
 bad_report_text line = line_of (codes "bad report line " ++ decimal line)
 
+-- where a text is no trace
+abbrev pub bad_trace_text : ℕ → List ℕ
+bad_trace_text line = line_of (codes "bad trace line " ++ decimal line)
+
 -- The text that is written with a status. With Ok and Wrong the command's own text is written, and after a fault
 -- or where memory is out none.
 abbrev pub status_text : Status → List ℕ
 status_text Ok = []
-status_text Usage = line_of (codes "usage: viommu run W | sim S T | one | check | make N | load N W")
+status_text Usage = line_of (codes "usage: viommu run W | sim S T | one | check | make N | load N W | dirty K W | trace")
 status_text (BadScript line kind) = bad_script_text line kind
 status_text TooLong = line_of (codes "input too long")
 status_text ReadFault = []
@@ -42,3 +47,4 @@ status_text WriteFault = []
 status_text OutOfMemory = []
 status_text Wrong = []
 status_text (BadReport line) = bad_report_text line
+status_text (BadTrace line) = bad_trace_text line

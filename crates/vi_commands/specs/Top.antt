@@ -20,20 +20,31 @@ use Rattle.vi_check.specs.Texts.{verdict_text}
 use Rattle.vi_check.specs.declared.verdict.Verdict.{Verdict}
 use Rattle.vi_check.specs.declared.verdict.Verdict.TheVariants as verdicts
 use Rattle.vi_make.specs.LoadScript.{load_script}
-use Rattle.vi_commands.specs.Accepted.{accepts, limit_of, task_of}
+use Rattle.vi_trace.specs.Laws.{NoCacheOutlivesAnAck, EachUseIsGranted}
+use Rattle.vi_trace.specs.Rules.{Judges, nothing_known}
+use Rattle.vi_trace.specs.Texts.{finding_text}
+use Rattle.vi_trace.specs.Traces.{trace}
+use Rattle.vi_trace.specs.declared.finding.Finding.{Finding}
+use Rattle.vi_trace.specs.declared.finding.Finding.TheVariants.{Held, Broken}
+use Rattle.vi_trace.specs.declared.finding.Rule.{Rule}
+use Rattle.vi_trace.specs.declared.trace.TraceLine.{TraceLine}
+use Rattle.vi_commands.specs.Accepted.{accepts, limit_of, task_of, text_task_of, input_limit}
 use Rattle.vi_commands.specs.Causes.{Rose}
 use Rattle.vi_commands.specs.Input.{ReadsAll, IsPast}
 use Rattle.vi_commands.specs.Judged.{judged_report}
 use Rattle.vi_commands.specs.OneThread.{one_thread}
 use Rattle.vi_commands.specs.Output.{TakesProperPrefix}
 use Rattle.vi_commands.specs.Status.{status_text}
-use Rattle.vi_commands.specs.Work.{Does}
+use Rattle.vi_commands.specs.Work.{Does, TellsOf, finding_status}
 use Rattle.vi_commands.specs.declared.command.Command.{Command}
 use Rattle.vi_commands.specs.declared.command.Command.TheVariants.{Make}
 use Rattle.vi_commands.specs.declared.command.Task.{Task}
 use Rattle.vi_commands.specs.declared.command.Task.TheVariants.{Sim, One, Check}
+use Rattle.vi_commands.specs.declared.command.TextTask.{TextTask}
+use Rattle.vi_commands.specs.declared.command.TextTask.TheVariants.{Trace}
 use Rattle.vi_commands.specs.declared.status.Status.{Status}
-use Rattle.vi_commands.specs.declared.status.Status.TheVariants.{Ok, Usage, BadScript, TooLong, ReadFault, WriteFault, OutOfMemory, Wrong, BadReport}
+use Rattle.vi_commands.specs.declared.status.Status.TheVariants.{Ok, Usage, BadScript, TooLong, ReadFault, WriteFault, OutOfMemory, Wrong, BadReport, BadTrace}
+use Rattle.vi_commands.specs.declared.top.TheConstants.{INPUT_LIMIT}
 
 -- the command's work is done on all that the source had left, within the limit
 pub record Works (command : Option Command) (old new : Option (List ℕ)) (status : Status) (text : List ℕ) : Type 0 where
@@ -44,11 +55,20 @@ pub record Works (command : Option Command) (old new : Option (List ℕ)) (statu
   pub within : length input ≤ limit_of task
   pub done : Does task input status text
 
+-- the command's text is made of all that the source had left, within the limit
+pub record Tells (command : Option Command) (old new : Option (List ℕ)) (status : Status) (text : List ℕ) : Type 0 where
+  pub task : TextTask
+  pub is_task : text_task_of command ≡ Some task
+  pub input : List ℕ
+  pub read : ReadsAll old new input
+  pub within : length input ≤ INPUT_LIMIT
+  pub done : TellsOf task input status text
+
 -- more bytes are left than the command reads
 pub record IsTooMuch (command : Option Command) (left : Option (List ℕ)) : Type 0 where
-  pub task : Task
-  pub is_task : task_of command ≡ Some task
-  pub past : IsPast (limit_of task) left
+  pub limit : ℕ
+  pub is_limit : input_limit command ≡ Some limit
+  pub past : IsPast limit left
 
 -- This status and this text are due, where no fault comes and memory is found; old and new are what
 -- the source has left before and after.
@@ -56,6 +76,7 @@ pub data IsDue (command : Option Command) (old new : Option (List ℕ)) (status 
   usage : command ≡ None → status ≡ Usage → text ≡ status_text Usage → IsDue command old new status text
   too_long : IsTooMuch command old → status ≡ TooLong → text ≡ status_text TooLong → IsDue command old new status text
   worked : Works command old new status text → IsDue command old new status text
+  told : Tells command old new status text → IsDue command old new status text
   made : (rounds : ℕ) → command ≡ Some (Make rounds) → status ≡ Ok → text ≡ load_script rounds → IsDue command old new status text
 
 -- a status that comes in place of the one that was due
@@ -82,7 +103,8 @@ pub record WritesReport (generator_seed moves : ℕ) (left_old left_new taken_ol
   pub unmapped : FaultsBehindUnmaps s (simulated s generator_seed moves).entries
 
 -- `one`: the whole input is a script, and what the sink took is the report of the replies of the one-thread device to its
--- lines. Their history is legal, all its fault records are shown, and nothing in it goes through what was unmapped.
+-- lines. Their history has every line, in order; it is legal, all its fault records are shown, and nothing in it goes through
+-- what was unmapped.
 pub record WritesReplies (left_old left_new taken_old taken_new : Option (List ℕ)) : Type 0 where
   pub input : List ℕ
   pub read : ReadsAll left_old left_new input
@@ -91,6 +113,7 @@ pub record WritesReplies (left_old left_new taken_old taken_new : Option (List �
   pub made : IsWellMade (one_thread s)
   pub typed : IsTyped (one_thread s)
   pub took : Appends taken_old taken_new (text (one_thread s))
+  pub ordered : IsOrdered s (one_thread s).entries
   pub legal : IsLegalHistory s (one_thread s).entries
   pub records : HasRecords s (one_thread s)
   pub unmapped : FaultsBehindUnmaps s (one_thread s).entries
@@ -120,7 +143,34 @@ pub record WritesVerdict (left_old left_new taken_old taken_new : Option (List �
   pub other : verdict judged.s judged.outcome ≢ verdicts.Legal
   pub took : Appends taken_old taken_new (verdict_text (verdict judged.s judged.outcome))
 
--- what a command that reads its input did, where it ended with Ok
+-- `trace`: the whole input is a trace whose finding is Held, and the sink took `held`. So no lawful cache outlives an Ack, and
+-- each use was granted.
+pub record WritesHeld (left_old left_new taken_old taken_new : Option (List ℕ)) : Type 0 where
+  pub input : List ℕ
+  pub read : ReadsAll left_old left_new input
+  pub lines : List TraceLine
+  pub is_trace : trace input ≡ std.Ok lines
+  pub is_held : Judges nothing_known lines Held
+  pub took : Appends taken_old taken_new (finding_text Held)
+  pub obeyed : NoCacheOutlivesAnAck lines × EachUseIsGranted lines
+
+-- the whole input is a trace in which a rule is broken, and the sink took the first line at which one is, and which one
+pub record WritesBroken (left_old left_new taken_old taken_new : Option (List ℕ)) : Type 0 where
+  pub input : List ℕ
+  pub read : ReadsAll left_old left_new input
+  pub lines : List TraceLine
+  pub is_trace : trace input ≡ std.Ok lines
+  pub line : ℕ
+  pub rule : Rule
+  pub is_broken : Judges nothing_known lines (Broken line rule)
+  pub took : Appends taken_old taken_new (finding_text (Broken line rule))
+
+-- what is wrong: `check` wrote a verdict that isn't Legal, or `trace` which rule is broken
+pub data WritesWrong (command : Option Command) (left_old left_new taken_old taken_new : Option (List ℕ)) : Type 0 where
+  judged : task_of command ≡ Some Check → WritesVerdict left_old left_new taken_old taken_new → WritesWrong command left_old left_new taken_old taken_new
+  broken : text_task_of command ≡ Some Trace → WritesBroken left_old left_new taken_old taken_new → WritesWrong command left_old left_new taken_old taken_new
+
+-- what a command whose input has a script did, where it ended with Ok
 abbrev pub Writes : Task → Option (List ℕ) → Option (List ℕ) → Option (List ℕ) → Option (List ℕ) → Type 0
 Writes (Sim generator_seed moves) left_old left_new taken_old taken_new = WritesReport generator_seed moves left_old left_new taken_old taken_new
 Writes One left_old left_new taken_old taken_new = WritesReplies left_old left_new taken_old taken_new
@@ -140,15 +190,21 @@ pub record IsBadReport (line : ℕ) (left_old left_new : Option (List ℕ)) : Ty
   pub is_script : accepts Check input ≡ std.Ok s
   pub refused : read_report (judged_report input) ≡ std.Err line
 
+-- the whole input is no trace: this is the first of its lines that says something and has no form
+pub record IsBadTrace (line : ℕ) (left_old left_new : Option (List ℕ)) : Type 0 where
+  pub input : List ℕ
+  pub read : ReadsAll left_old left_new input
+  pub refused : trace input ≡ std.Err line
+
 -- a status was due, and the sink took a proper prefix of its text
 abbrev pub CutsText : Option Command → Option (List ℕ) → Option (List ℕ) → Option (List ℕ) → Option (List ℕ) → Type 0
 CutsText command left_old left_new taken_old taken_new =
     (due : Status) × (text : List ℕ) × IsDue command left_old left_new due text × TakesProperPrefix taken_old taken_new text
 
 -- where more bytes than the limit are left, the status is TooLong, unless a fault comes or memory is wanting
-abbrev pub IsTooLongPast : Task → Option (List ℕ) → Status → Type 0
-IsTooLongPast task None status = ⊤
-IsTooLongPast task (Some input) status = limit_of task < length input → (status ≡ TooLong) ⊎ IsFault status
+abbrev pub IsTooLongPast : ℕ → Option (List ℕ) → Status → Type 0
+IsTooLongPast limit None status = ⊤
+IsTooLongPast limit (Some input) status = limit < length input → (status ≡ TooLong) ⊎ IsFault status
 
 -- the status of a verdict
 abbrev pub verdict_status : Verdict → Status
@@ -184,10 +240,24 @@ IsRefusedWithin task None status = ⊤
 IsRefusedWithin task (Some input) status =
     length input ≤ limit_of task → (bad : Bad) → accepts task input ≡ std.Err bad → (status ≡ BadScript bad.line bad.kind) ⊎ IsFault status
 
--- how many bytes a command reads at most, but for what the last read brings
-abbrev pub reads_up_to : Option Task → ℕ
+-- the status of the finding on a trace that was read, or of the first line that has no form
+abbrev pub IsTraced : Result (List TraceLine) ℕ → Status → Type 0
+IsTraced (std.Ok lines) status = (f : Finding) × Judges nothing_known lines f × (status ≡ finding_status f)
+IsTraced (std.Err line) status = status ≡ BadTrace line
+
+-- the work on an input without a script is done
+abbrev pub IsTold : TextTask → List ℕ → Status → Type 0
+IsTold Trace input status = IsTraced (trace input) status
+
+-- where no more bytes than the limit are left, the work on them is done, unless a fault comes or memory is wanting
+abbrev pub IsToldWithin : TextTask → Option (List ℕ) → Status → Type 0
+IsToldWithin task None status = ⊤
+IsToldWithin task (Some input) status = length input ≤ INPUT_LIMIT → IsTold task input status ⊎ IsFault status
+
+-- how many bytes are read at most by this limit, but for what the last read brings
+abbrev pub reads_up_to : Option ℕ → ℕ
 reads_up_to None = 0
-reads_up_to (Some task) = limit_of task
+reads_up_to (Some limit) = limit
 
 -- What is known of the source and the sink at a moment: what is left and what was taken, where they
 -- tell it, and their counts of faults.
@@ -201,5 +271,5 @@ pub record Outside : Type 0 where
 pub data Ends (command : Option Command) (old new : Outside) (status : Status) : Type 0 where
   delivered : (text : List ℕ) → IsDue command old.left new.left status text → Appends old.taken new.taken text → Ends command old new status
   cut : CutsText command old.left new.left old.taken new.taken → Rose old.write_faults new.write_faults → status ≡ WriteFault → Ends command old new status
-  not_read : IsSome (task_of command) → Rose old.read_faults new.read_faults → Keeps old.taken new.taken → status ≡ ReadFault → Ends command old new status
+  not_read : IsSome (input_limit command) → Rose old.read_faults new.read_faults → Keeps old.taken new.taken → status ≡ ReadFault → Ends command old new status
   no_memory : IsSome command → Keeps old.taken new.taken → status ≡ OutOfMemory → Ends command old new status

@@ -14,14 +14,22 @@ use Rattle.vi_lines.specs.Value.{ScriptValue}
 use Rattle.vi_script.specs.Texts.{Bad}
 use Rattle.vi_lines.specs.Legal.{IsLegalHistory, HasRecords}
 use Rattle.vi_lines.specs.Ordered.{IsOrdered}
+use Rattle.vi_trace.specs.Rules as rules
+use Rattle.vi_trace.specs.Texts.{finding_text}
+use Rattle.vi_trace.specs.Traces.{trace}
+use Rattle.vi_trace.specs.declared.finding.Finding.{Finding}
+use Rattle.vi_trace.specs.declared.finding.Finding.TheVariants.{Held, Broken}
+use Rattle.vi_trace.specs.declared.trace.TraceLine.{TraceLine}
 use Rattle.vi_commands.specs.Accepted.{accepts}
 use Rattle.vi_commands.specs.Judged.{judged_report}
 use Rattle.vi_commands.specs.OneThread.{one_thread}
 use Rattle.vi_commands.specs.Status.{status_text}
 use Rattle.vi_commands.specs.declared.command.Task.{Task}
 use Rattle.vi_commands.specs.declared.command.Task.TheVariants.{Sim, One, Check}
+use Rattle.vi_commands.specs.declared.command.TextTask.{TextTask}
+use Rattle.vi_commands.specs.declared.command.TextTask.TheVariants.{Trace}
 use Rattle.vi_commands.specs.declared.status.Status.{Status}
-use Rattle.vi_commands.specs.declared.status.Status.TheVariants.{Ok, BadScript, Wrong, BadReport}
+use Rattle.vi_commands.specs.declared.status.Status.TheVariants.{Ok, BadScript, Wrong, BadReport, BadTrace}
 
 -- `sim S T`: the text is the report of the script's run under the schedule of S and T. The run's history is in order and
 -- legal, and its fault records are shown well.
@@ -60,3 +68,14 @@ pub data Answers (task : Task) (input : List ℕ) (s : ScriptValue) (status : St
 pub data Does (task : Task) (input : List ℕ) (status : Status) (answer : List ℕ) : Type 0 where
   took : (s : ScriptValue) → accepts task input ≡ std.Ok s → Answers task input s status answer → Does task input status answer
   refused : (bad : Bad) → accepts task input ≡ std.Err bad → status ≡ BadScript bad.line bad.kind → answer ≡ status_text status → Does task input status answer
+
+-- the status of a finding
+abbrev pub finding_status : Finding → Status
+finding_status Held = Ok
+finding_status (Broken line rule) = Wrong
+
+-- What a command makes of an input without a script. `trace`: the input is a trace, with the status and the text of its
+-- finding, or it is none, for its first line that has no form.
+pub data TellsOf (task : TextTask) (input : List ℕ) (status : Status) (answer : List ℕ) : Type 0 where
+  finds : task ≡ Trace → (lines : List TraceLine) (f : Finding) → trace input ≡ std.Ok lines → rules.Judges rules.nothing_known lines f → status ≡ finding_status f → answer ≡ finding_text f → TellsOf task input status answer
+  no_trace : task ≡ Trace → (line : ℕ) → trace input ≡ std.Err line → status ≡ BadTrace line → answer ≡ status_text status → TellsOf task input status answer

@@ -12,6 +12,8 @@ pub const MOST_MOVES: u32 = 1_000_000;
 pub enum Command {
     /// A script is read from standard input.
     Script(Task),
+    /// Standard input has no script, and a text is made of it.
+    Text(TextTask),
     /// `make N`: the load script of N rounds, 1 to 400, is written. Nothing is read.
     Make { rounds: u32 },
 }
@@ -27,6 +29,13 @@ pub enum Task {
     One,
     /// `check`: a line `report` and a report follow it, and the verdict on the report is written.
     Check,
+}
+
+/// What is done with an input that has no script.
+#[derive(Clone, Copy, Debug, PartialEq, Eq)]
+pub enum TextTask {
+    /// `trace`: recorded IOTLB messages are judged, and the finding is written.
+    Trace,
 }
 
 impl Command {
@@ -47,9 +56,10 @@ fn named(name: &str, behind: &[String]) -> Option<Command>
 {
     match name {
         "sim" => sim_of(behind),
-        "one" => alone(Task::One, behind),
-        "check" => alone(Task::Check, behind),
+        "one" => alone(Command::Script(Task::One), behind),
+        "check" => alone(Command::Script(Task::Check), behind),
         "make" => make_of(behind),
+        "trace" => alone(Command::Text(TextTask::Trace), behind),
         _ => None,
     }
 }
@@ -104,11 +114,11 @@ fn make_for(rounds: Option<u64>) -> Option<Command>
     })
 }
 
-fn alone(task: Task, behind: &[String]) -> Option<Command>
-    ensures { result ≡ alone task (map string_bytes behind.now) }
+fn alone(command: Command, behind: &[String]) -> Option<Command>
+    ensures { result ≡ alone command (map string_bytes behind.now) }
 {
     if behind.is_empty() {
-        Some(Command::Script(task))
+        Some(command)
     } else {
         None
     }

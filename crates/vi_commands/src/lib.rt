@@ -2,7 +2,7 @@
 //! and a source, and writes one text to a sink. Commands that run threads are `vi_threaded`'s.
 //!
 //! Main calls:
-//! - `plain_top` does `one`, `check`, `sim S T` or `make N`, and answers the `Status`.
+//! - `plain_top` does `one`, `check`, `sim S T`, `make N` or `trace`, and answers the `Status`.
 //! - `one_thread` answers the one-thread device's replies to a script.
 //! - `read_input` and `write_text` read a source up to a limit, and write a whole text.
 //!
@@ -26,9 +26,10 @@
 //! ```
 //!
 //! # Limits
-//! A script has at most 1,048,576 bytes, the input of `check` 67,108,864; more is `TooLong`. T is
-//! at most 1,000,000, N is 1 to 400. Other words are `Usage`. It takes memory for the input and the
-//! work; out of memory is a status. A source or sink that fails has to count its faults.
+//! A script or trace has at most 1,048,576 bytes, the input of `check` 67,108,864; more is
+//! `TooLong`. T is at most 1,000,000, N is 1 to 400. Other words are `Usage`. It takes memory for
+//! the input and the work; out of memory is a status. A source or sink that fails has to count its
+//! faults.
 //!
 //! # Source
 //! Virtio 1.2, 5.13.6, as replies of `one`; `docs/FORMATS.md` has the texts.
@@ -47,10 +48,11 @@ mod output;
 mod outside;
 mod standard;
 mod status;
+mod told;
 mod top;
 mod work;
 
-pub use command::{Command, MOST_MOVES, Task};
+pub use command::{Command, MOST_MOVES, Task, TextTask};
 pub use delivery::deliver;
 pub use input::{InputFault, read_input};
 pub use list_sink::ListSink;

@@ -1,6 +1,6 @@
 //! How the program ends: a status, its number, and the text that is written with it.
 ghost use Rattle.std.specs.Prelude.{◌≡◌, IfOk};
-ghost use Rattle.vi_commands.specs.Status.{bad_script_text, bad_report_text};
+ghost use Rattle.vi_commands.specs.Status.{bad_script_text, bad_report_text, bad_trace_text};
 
 use std::alloc::{AllocError, Global};
 use vi_bytes::Bytes;
@@ -21,15 +21,18 @@ pub enum Status {
     ReadFault,
     /// Writing the text failed.
     WriteFault,
-    /// The report isn't one of the script: the verdict says what is wrong first.
+    /// The report isn't one of the script, or a rule is broken in the trace: the text says what is wrong first.
     Wrong,
     OutOfMemory,
     /// The report is refused at this line of its own, counted from 1.
     BadReport { line: u32 },
+    /// The trace is refused at this line, counted from 1.
+    BadTrace { line: u32 },
 }
 
 /// What is written where the words are no form.
-pub const USAGE: &[u8] = b"usage: viommu run W | sim S T | one | check | make N | load N W\n";
+pub const USAGE: &[u8] =
+    b"usage: viommu run W | sim S T | one | check | make N | load N W | dirty K W | trace\n";
 
 /// What is written where the input is over its limit.
 pub const TOO_LONG: &[u8] = b"input too long\n";
@@ -51,6 +54,7 @@ impl Status {
             Status::Wrong => 7,
             Status::OutOfMemory => 8,
             Status::BadReport { .. } => 10,
+            Status::BadTrace { .. } => 14,
         }
     }
 
@@ -64,6 +68,7 @@ impl Status {
             Status::BadScript { line, kind } => bad_script(alloc, *line, *kind),
             Status::TooLong => Bytes::of(alloc, TOO_LONG),
             Status::BadReport { line } => bad_report(alloc, *line),
+            Status::BadTrace { line } => bad_trace(alloc, *line),
             _ => Ok(Bytes::new(alloc)),
         }
     }
@@ -82,5 +87,13 @@ fn bad_report(alloc: Global, line: u32) -> Result<Bytes, AllocError>
     ensures { IfOk result (λ text. text ≡ bad_report_text line) }
 {
     let text = format!(in alloc; "bad report line {line}\n")?;
+    Ok(Bytes::from_vec(text.into_bytes()))
+}
+
+/// The line that says where a trace is refused.
+fn bad_trace(alloc: Global, line: u32) -> Result<Bytes, AllocError>
+    ensures { IfOk result (λ text. text ≡ bad_trace_text line) }
+{
+    let text = format!(in alloc; "bad trace line {line}\n")?;
     Ok(Bytes::from_vec(text.into_bytes()))
 }

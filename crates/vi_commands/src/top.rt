@@ -3,26 +3,29 @@ ghost use Rattle.std.specs.Prelude.{◌≡◌, ◌≢◌, ◌+◌, ◌≤◌, �
 ghost use Rattle.std.specs.Io.KnownBytes.{Appends, Keeps};
 ghost use Rattle.vi_make.specs.LoadScript.{load_script};
 ghost use Rattle.vi_script.specs.declared.fault.BadKind.{BadKind};
-ghost use Rattle.vi_commands.specs.Accepted.{task_of, limit_of};
+ghost use Rattle.vi_commands.specs.Accepted.{task_of, text_task_of, limit_of, input_limit};
 ghost use Rattle.vi_commands.specs.Causes.{Rose};
 ghost use Rattle.vi_commands.specs.Command.{command_in, IsForm};
 ghost use Rattle.vi_commands.specs.Input.{TakesAtMost};
 ghost use Rattle.vi_commands.specs.Output.{TakesProperPrefix};
 ghost use Rattle.vi_commands.specs.Status.{status_text};
-ghost use Rattle.vi_commands.specs.Top.{CutsText, Ends, IsBadReport, IsDoneWithin, IsFault, IsRefusedAt, IsRefusedWithin, IsTooLongPast, IsTooMuch, Writes, WritesVerdict, reads_up_to};
+ghost use Rattle.vi_commands.specs.Top.{CutsText, Ends, IsBadReport, IsBadTrace, IsDoneWithin, IsFault, IsRefusedAt, IsRefusedWithin, IsToldWithin, IsTooLongPast, IsTooMuch, Writes, WritesHeld, WritesWrong, reads_up_to};
 ghost use Rattle.vi_commands.specs.declared.command.Command.{Command};
 ghost use Rattle.vi_commands.specs.declared.command.Task.{Task};
+ghost use Rattle.vi_commands.specs.declared.command.TextTask.{TextTask};
+ghost use Rattle.vi_commands.specs.declared.top.TheConstants.{INPUT_LIMIT};
 
-use crate::command::{Command, Task};
+use crate::command::{Command, Task, TextTask};
 use crate::delivery::deliver;
 use crate::input::{InputFault, read_input};
 use crate::outside::{Sink, Source};
 use crate::status::{Status, TOO_LONG, USAGE};
+use crate::told::tell;
 use crate::work::work;
 use std::alloc::Global;
 use vi_make::make;
 
-/// How many bytes of input a command reads at most.
+/// How many bytes of input a command reads at most, but for `check`.
 pub const INPUT_LIMIT: u32 = 1_048_576;
 
 /// How many bytes `check` reads at most, whose input has a report behind the script.
@@ -57,13 +60,13 @@ pub fn plain_top<S: Source, K: Sink>(
     ensures usage { result ≡ Status.Usage → command_in words.now ≡ None }
     ensures usage_always { command_in words.now ≡ None → (result ≡ Status.Usage) ⊎ (result ≡ Status.WriteFault) }
 
-    // Nothing is read but by a command that takes a script.
-    ensures reads_nothing { task_of (command_in words.now) ≡ None → source.new ≡ source.old }
+    // Nothing is read but by a command that has a limit of input.
+    ensures reads_nothing { input_limit (command_in words.now) ≡ None → source.new ≡ source.old }
 
     // More bytes than the limit are left exactly where the status is TooLong, unless a fault comes.
     ensures too_long { result ≡ Status.TooLong → IsTooMuch (command_in words.now) (S.left source.old) }
-    ensures too_long_always { (task : Task) → task_of (command_in words.now) ≡ Some task
-        → IsTooLongPast task (S.left source.old) result }
+    ensures too_long_always { (limit : ℕ) → input_limit (command_in words.now) ≡ Some limit
+        → IsTooLongPast limit (S.left source.old) result }
 
     // With Ok the source was read to its end, the bytes are a script, and the sink took what the command writes.
     ensures ok { (task : Task) → task_of (command_in words.now) ≡ Some task → result ≡ Status.Ok → Writes task
@@ -83,11 +86,24 @@ pub fn plain_top<S: Source, K: Sink>(
         → result ≡ Status.BadScript line kind → IsRefusedAt task line kind (S.left source.old) (S.left source.new) }
     ensures bad_script_always { (task : Task) → task_of (command_in words.now) ≡ Some task → IsRefusedWithin task (S.left source.old) result }
 
-    // The report of a `check` is refused at this line, or the verdict on it isn't Legal and the sink took its text.
+    // `trace`: with Ok the source was read to its end, the bytes are a trace whose finding is Held, and the sink took `held`.
+    // So no lawful cache outlives an Ack, and each use was granted.
+    ensures held { text_task_of (command_in words.now) ≡ Some TextTask.Trace → result ≡ Status.Ok → WritesHeld
+        (S.left source.old) (S.left source.new) (K.taken sink.old) (K.taken sink.new) }
+
+    // The work on an input without a script is done, unless a fault comes: the status of `trace` is that of the finding,
+    // or of the first line that has no form.
+    ensures told { (task : TextTask) → text_task_of (command_in words.now) ≡ Some task → IsToldWithin task (S.left source.old) result }
+    ensures bad_trace { (line : ℕ) → result ≡ Status.BadTrace line
+        → (text_task_of (command_in words.now) ≡ Some TextTask.Trace) × IsBadTrace line (S.left source.old) (S.left source.new) }
+
+    // The report of a `check` is refused at this line.
     ensures bad_report { (line : ℕ) → result ≡ Status.BadReport line
         → (task_of (command_in words.now) ≡ Some Task.Check) × IsBadReport line (S.left source.old) (S.left source.new) }
-    ensures wrong { result ≡ Status.Wrong → (task_of (command_in words.now) ≡ Some Task.Check)
-        × WritesVerdict (S.left source.old) (S.left source.new) (K.taken sink.old) (K.taken sink.new) }
+
+    // The verdict of a `check` isn't Legal, or the finding of a `trace` isn't Held, and the sink took its text.
+    ensures wrong { result ≡ Status.Wrong → WritesWrong (command_in words.now)
+        (S.left source.old) (S.left source.new) (K.taken sink.old) (K.taken sink.new) }
 
     // A fault comes only where the source's or the sink's count of faults rose in this call.
     ensures read_fault { result ≡ Status.ReadFault
@@ -101,7 +117,7 @@ pub fn plain_top<S: Source, K: Sink>(
     ensures prefix { result ≡ Status.WriteFault → CutsText (command_in words.now)
         (S.left source.old) (S.left source.new) (K.taken sink.old) (K.taken sink.new) }
 
-    ensures reads_at_most { TakesAtMost (reads_up_to (task_of (command_in words.now)) + 4096) (S.left source.old) (S.left source.new) }
+    ensures reads_at_most { TakesAtMost (reads_up_to (input_limit (command_in words.now)) + 4096) (S.left source.old) (S.left source.new) }
     ensures read_faults { S.faults source.old ≤ S.faults source.new }
     ensures write_faults { K.faults sink.old ≤ K.faults sink.new }
 {
@@ -130,8 +146,8 @@ fn carry_out<S: Source, K: Sink>(
           write_faults = K.faults sink.new;
         })
         result }
-    ensures unread { task_of command ≡ None → source.new ≡ source.old }
-    ensures reads_at_most { TakesAtMost (reads_up_to (task_of command) + 4096) (S.left source.old) (S.left source.new) }
+    ensures unread { input_limit command ≡ None → source.new ≡ source.old }
+    ensures reads_at_most { TakesAtMost (reads_up_to (input_limit command) + 4096) (S.left source.old) (S.left source.new) }
     ensures read_count { S.faults source.old ≤ S.faults source.new }
     ensures write_count { K.faults sink.old ≤ K.faults sink.new }
 {
@@ -139,6 +155,7 @@ fn carry_out<S: Source, K: Sink>(
         None => deliver(sink, Status::Usage, USAGE),
         Some(Command::Make { rounds }) => write_load_script(alloc, rounds, sink),
         Some(Command::Script(task)) => do_task(alloc, task, source, sink),
+        Some(Command::Text(task)) => do_text(alloc, task, source, sink),
     }
 }
 
@@ -191,7 +208,44 @@ fn do_task<S: Source, K: Sink>(alloc: Global, task: Task, source: &mut S, sink: 
     }
 }
 
-/// How many bytes of input are read at most.
+/// Reads the source, makes a text of what it gave, and writes it.
+fn do_text<S: Source, K: Sink>(
+    alloc: Global,
+    task: TextTask,
+    source: &mut S,
+    sink: &mut K,
+) -> Status
+    ensures ends { Ends (Some (Command.Text task))
+        (record {
+          left = S.left source.old;
+          read_faults = S.faults source.old;
+          taken = K.taken sink.old;
+          write_faults = K.faults sink.old;
+        })
+        (record {
+          left = S.left source.new;
+          read_faults = S.faults source.new;
+          taken = K.taken sink.new;
+          write_faults = K.faults sink.new;
+        })
+        result }
+    ensures reads_at_most { TakesAtMost (INPUT_LIMIT + 4096) (S.left source.old) (S.left source.new) }
+    ensures read_count { S.faults source.old ≤ S.faults source.new }
+    ensures write_count { K.faults sink.old ≤ K.faults sink.new }
+{
+    let input = match read_input(alloc, source, INPUT_LIMIT) {
+        Ok(input) => input,
+        Err(InputFault::TooLong) => return deliver(sink, Status::TooLong, TOO_LONG),
+        Err(InputFault::ReadFault) => return Status::ReadFault,
+        Err(InputFault::OutOfMemory) => return Status::OutOfMemory,
+    };
+    match tell(alloc, task, input.as_slice()) {
+        Ok(answer) => deliver(sink, answer.status, answer.text.as_slice()),
+        Err(_) => Status::OutOfMemory,
+    }
+}
+
+/// How many bytes of input are read at most, where it has a script.
 fn limit(task: Task) -> u32
     ensures { result ≡ limit_of task }
 {

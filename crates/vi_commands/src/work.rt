@@ -1,4 +1,4 @@
-//! The work of each command: from the bytes of its input to a status and a text.
+//! The work of each command on a script: from the bytes of its input to a status and a text.
 ghost use Rattle.std.specs.Prelude.{◌≡◌, ◌≤◌, ℕ, List, IfOk, OnOk, MatchResult, Ok, length};
 ghost use Rattle.vi_check.specs.Verdicts.{verdict};
 ghost use Rattle.vi_check.specs.Texts.{verdict_text};
@@ -145,8 +145,8 @@ fn report(alloc: Global, outcome: &Outcome) -> Result<Answer, AllocError>
     })
 }
 
-/// A status with its own text.
-fn refusal(alloc: Global, status: Status) -> Result<Answer, AllocError>
+/// A status with its own text. An error means out of memory.
+pub fn refusal(alloc: Global, status: Status) -> Result<Answer, AllocError>
     ensures status { IfOk result (λ answer. answer.status ≡ status) }
     ensures text { IfOk result (λ answer. answer.text ≡ status_text status) }
 {

@@ -23,7 +23,7 @@ use Rattle.vi_run.specs.Runs.{FinishedValue, CameTo}
 use Rattle.vi_commands.specs.Causes.{Rose}
 use Rattle.vi_commands.specs.Output.{TakesProperPrefix}
 use Rattle.vi_threaded.specs.Histories.{WritesHistory}
-use Rattle.vi_threaded.specs.Running.{RanTo, Reports, Summarizes, Refuses, IsRunDue, too_long, refused, reports, summarizes, EndsRun, delivered, cut, not_read, no_memory, WritesRun, WritesSummary, IsRunWithin, IsRunRefused, IsRunTooLong}
+use Rattle.vi_threaded.specs.Running.{ReadsScript, RanTo, Reports, Summarizes, Refuses, IsRunDue, too_long, refused, reports, summarizes, EndsRun, delivered, cut, not_read, no_memory, WritesRun, WritesSummary, IsRunWithin, IsRunRefused, IsRunTooLong}
 use Rattle.vi_commands.specs.Status.{bad_script_text}
 use Rattle.vi_commands.specs.Top.{Outside, IsFault}
 use Rattle.vi_threaded.specs.declared.threaded.Threaded.{Threaded}
@@ -90,51 +90,55 @@ EndsRun-from_refusal form old new kept line kind written status is_due either wh
 IsFault-at : (fault status : Status) → status ≡ fault → IsFault fault → IsFault status
 IsFault-at fault status is f = subst IsFault (sym is) f
 
+-- `load` reads nothing
+no_script : (form : Threaded) (rounds workers : ℕ) → form ≡ Load rounds workers → ReadsScript form → ⊥
+no_script form rounds workers is reads = subst ReadsScript is reads
+
 module _ (form : Threaded) (old new : Outside) (run : Option FinishedValue) (status : Status) where
-  -- with Ok, `run W` wrote its report
-  pub run_written : EndsRun form old new run status → (workers : ℕ) → form ≡ Run workers → status ≡ Ok → WritesRun old new run
-  run_written (delivered answer (too_long _ _ _ _ s _) _) workers is ok = absurd (cc (s, ok))
-  run_written (delivered answer (refused _ _ r _ _) _) workers is ok = absurd (cc (r.status_is, ok))
-  run_written (delivered answer (reports _ _ r _) took) workers is ok = record { answer = answer; reports = r; took = took }
-  run_written (delivered answer (summarizes _ _ other _ _) _) workers is ok = absurd (cc (other, is))
-  run_written (cut _ s) workers is ok = absurd (cc (s, ok))
-  run_written (not_read _ _ _ _ _ s) workers is ok = absurd (cc (s, ok))
-  run_written (no_memory _ _ s) workers is ok = absurd (cc (s, ok))
+  -- with Ok, a form that reads a script wrote the text of its run
+  pub run_written : EndsRun form old new run status → ReadsScript form → status ≡ Ok → WritesRun form old new run
+  run_written (delivered answer (too_long _ _ _ s _) _) reads ok = absurd (cc (s, ok))
+  run_written (delivered answer (refused _ r _ _) _) reads ok = absurd (cc (r.status_is, ok))
+  run_written (delivered answer (reports _ r _) took) reads ok = record { answer = answer; reports = r; took = took }
+  run_written (delivered answer (summarizes rounds workers is _ _) _) reads ok = absurd (no_script form rounds workers is reads)
+  run_written (cut _ s) reads ok = absurd (cc (s, ok))
+  run_written (not_read _ _ _ _ s) reads ok = absurd (cc (s, ok))
+  run_written (no_memory _ _ s) reads ok = absurd (cc (s, ok))
 
   -- and `load N W` its summary
   pub summary_written : EndsRun form old new run status → (rounds workers : ℕ) → form ≡ Load rounds workers → status ≡ Ok → WritesSummary rounds old new run
-  summary_written (delivered answer (too_long _ other _ _ _ _) _) rounds workers is ok = absurd (cc (other, is))
-  summary_written (delivered answer (refused _ other _ _ _) _) rounds workers is ok = absurd (cc (other, is))
-  summary_written (delivered answer (reports _ other _ _) _) rounds workers is ok = absurd (cc (other, is))
+  summary_written (delivered answer (too_long reads _ _ _ _) _) rounds workers is ok = absurd (no_script form rounds workers is reads)
+  summary_written (delivered answer (refused reads _ _ _) _) rounds workers is ok = absurd (no_script form rounds workers is reads)
+  summary_written (delivered answer (reports reads _ _) _) rounds workers is ok = absurd (no_script form rounds workers is reads)
   summary_written (delivered answer (summarizes others _ f d _) took) rounds workers is ok =
       let same : others ≡ rounds = cc (f, is) in
       record { answer = answer; summarizes = subst (λ (n : ℕ). Summarizes n run answer) same d; took = took }
   summary_written (cut _ s) rounds workers is ok = absurd (cc (s, ok))
-  summary_written (not_read _ _ _ _ _ s) rounds workers is ok = absurd (cc (s, ok))
+  summary_written (not_read _ _ _ _ s) rounds workers is ok = absurd (cc (s, ok))
   summary_written (no_memory _ _ s) rounds workers is ok = absurd (cc (s, ok))
 
   pub summary_or_fault : EndsRun form old new run status → (rounds workers : ℕ) → form ≡ Load rounds workers → (status ≡ Ok) ⊎ IsFault status
-  summary_or_fault (delivered answer (too_long _ other _ _ _ _) _) rounds workers is = absurd (cc (other, is))
-  summary_or_fault (delivered answer (refused _ other _ _ _) _) rounds workers is = absurd (cc (other, is))
-  summary_or_fault (delivered answer (reports _ other _ _) _) rounds workers is = absurd (cc (other, is))
+  summary_or_fault (delivered answer (too_long reads _ _ _ _) _) rounds workers is = absurd (no_script form rounds workers is reads)
+  summary_or_fault (delivered answer (refused reads _ _ _) _) rounds workers is = absurd (no_script form rounds workers is reads)
+  summary_or_fault (delivered answer (reports reads _ _) _) rounds workers is = absurd (no_script form rounds workers is reads)
   summary_or_fault (delivered answer (summarizes _ _ _ _ s) _) rounds workers is = inl s
   summary_or_fault (cut _ s) rounds workers is = inr (IsFault-at WriteFault status s tt)
-  summary_or_fault (not_read _ _ _ _ _ s) rounds workers is = inr (IsFault-at ReadFault status s tt)
+  summary_or_fault (not_read _ _ _ _ s) rounds workers is = inr (IsFault-at ReadFault status s tt)
   summary_or_fault (no_memory _ _ s) rounds workers is = inr (IsFault-at OutOfMemory status s tt)
 
   -- the words were a form
   pub no_usage : EndsRun form old new run status → status ≡ Usage → ⊥
-  no_usage (delivered answer (too_long _ _ _ _ s _) _) is = absurd (cc (s, is))
-  no_usage (delivered answer (refused _ _ r _ _) _) is = absurd (cc (r.status_is, is))
-  no_usage (delivered answer (reports _ _ _ s) _) is = absurd (cc (s, is))
+  no_usage (delivered answer (too_long _ _ _ s _) _) is = absurd (cc (s, is))
+  no_usage (delivered answer (refused _ r _ _) _) is = absurd (cc (r.status_is, is))
+  no_usage (delivered answer (reports _ _ s) _) is = absurd (cc (s, is))
   no_usage (delivered answer (summarizes _ _ _ _ s) _) is = absurd (cc (s, is))
   no_usage (cut _ s) is = absurd (cc (s, is))
-  no_usage (not_read _ _ _ _ _ s) is = absurd (cc (s, is))
+  no_usage (not_read _ _ _ _ s) is = absurd (cc (s, is))
   no_usage (no_memory _ _ s) is = absurd (cc (s, is))
 
 -- what a run's report says without the run
-pub history_written : (old new : Outside) (run : Option FinishedValue) → WritesRun old new run → WritesHistory old.left new.left old.taken new.taken
-history_written old new run w = record {
+pub history_written : (workers : ℕ) (old new : Outside) (run : Option FinishedValue) → WritesRun (Run workers) old new run → WritesHistory old.left new.left old.taken new.taken
+history_written workers old new run w = record {
   input = w.reports.input;
   read = w.reports.read;
   within = w.reports.within;
@@ -148,50 +152,50 @@ history_written old new run w = record {
 
 -- ---- where the source tells what is left
 
-told_report : {new : Option (List ℕ)} {run : Option FinishedValue} {answer : List ℕ} (left : List ℕ) (r : Reports (Some left) new run answer) → r.input ≡ left
+told_report : {form : Threaded} {new : Option (List ℕ)} {run : Option FinishedValue} {answer : List ℕ} (left : List ℕ) (r : Reports form (Some left) new run answer) → r.input ≡ left
 told_report left r = r.read.0
 
 told_refusal : {new : Option (List ℕ)} {status : Status} (left : List ℕ) (r : Refuses (Some left) new status) → r.input ≡ left
 told_refusal left r = r.read.0
 
-module _ (form : Threaded) (workers : ℕ) (is : form ≡ Run workers) (input : List ℕ) (new : Option (List ℕ)) (run : Option FinishedValue) (status : Status) where
+module _ (form : Threaded) (reads : ReadsScript form) (input : List ℕ) (new : Option (List ℕ)) (run : Option FinishedValue) (status : Status) where
   due_run : {answer : List ℕ} → IsRunDue form (Some input) new run status answer → length input ≤ INPUT_LIMIT → (s : ScriptValue) → script input ≡ std.Ok s → (status ≡ Ok) ⊎ IsFault status
-  due_run (too_long _ _ past _ _ _) within s read = absurd (omega (arith, past, within))
-  due_run (refused _ _ r _ _) within s read =
+  due_run (too_long _ past _ _ _) within s read = absurd (omega (arith, past, within))
+  due_run (refused _ r _ _) within s read =
       let other : script input ≡ std.Err r.bad = subst (λ (i : List ℕ). script i ≡ std.Err r.bad) (told_refusal input r) r.refused in
       absurd (cc (other, read))
-  due_run (reports _ _ _ st) within s read = inl st
-  due_run (summarizes _ _ other _ _) within s read = absurd (cc (other, is))
+  due_run (reports _ _ st) within s read = inl st
+  due_run (summarizes rounds workers is _ _) within s read = absurd (no_script form rounds workers is reads)
 
   due_refusal : {answer : List ℕ} → IsRunDue form (Some input) new run status answer → length input ≤ INPUT_LIMIT → (bad : Bad) → script input ≡ std.Err bad
       → (status ≡ BadScript bad.line bad.kind) ⊎ IsFault status
-  due_refusal (too_long _ _ past _ _ _) within bad read = absurd (omega (arith, past, within))
-  due_refusal (refused _ _ r _ _) within bad read =
+  due_refusal (too_long _ past _ _ _) within bad read = absurd (omega (arith, past, within))
+  due_refusal (refused _ r _ _) within bad read =
       let here : script input ≡ std.Err r.bad = subst (λ (i : List ℕ). script i ≡ std.Err r.bad) (told_refusal input r) r.refused in
       let same : r.bad ≡ bad = cc (here, read) in
       inl (r.status_is ∙ ap (λ (b : Bad). BadScript b.line b.kind) same)
-  due_refusal (reports _ _ r _) within bad read =
+  due_refusal (reports _ r _) within bad read =
       let other : script input ≡ std.Ok r.s = subst (λ (i : List ℕ). script i ≡ std.Ok r.s) (told_report input r) r.is_script in
       absurd (cc (other, read))
-  due_refusal (summarizes _ _ other _ _) within bad read = absurd (cc (other, is))
+  due_refusal (summarizes rounds workers is _ _) within bad read = absurd (no_script form rounds workers is reads)
 
   due_long : {answer : List ℕ} → IsRunDue form (Some input) new run status answer → INPUT_LIMIT < length input → (status ≡ TooLong) ⊎ IsFault status
-  due_long (too_long _ _ _ _ st _) past = inl st
-  due_long (refused _ _ r _ _) past = absurd (omega (arith, past, r.within, ap length (told_refusal input r)))
-  due_long (reports _ _ r _) past = absurd (omega (arith, past, r.within, ap length (told_report input r)))
-  due_long (summarizes _ _ other _ _) past = absurd (cc (other, is))
+  due_long (too_long _ _ _ st _) past = inl st
+  due_long (refused _ r _ _) past = absurd (omega (arith, past, r.within, ap length (told_refusal input r)))
+  due_long (reports _ r _) past = absurd (omega (arith, past, r.within, ap length (told_report input r)))
+  due_long (summarizes rounds workers is _ _) past = absurd (no_script form rounds workers is reads)
 
-run_from_due : (form : Threaded) (workers : ℕ) → form ≡ Run workers → (left new : Option (List ℕ)) (run : Option FinishedValue) (status : Status) {answer : List ℕ} → IsRunDue form left new run status answer → IsRunWithin left status
-run_from_due form workers is None new run status due = tt
-run_from_due form workers is (Some input) new run status due = due_run form workers is input new run status due
+run_from_due : (form : Threaded) → ReadsScript form → (left new : Option (List ℕ)) (run : Option FinishedValue) (status : Status) {answer : List ℕ} → IsRunDue form left new run status answer → IsRunWithin left status
+run_from_due form reads None new run status due = tt
+run_from_due form reads (Some input) new run status due = due_run form reads input new run status due
 
-refusal_from_due : (form : Threaded) (workers : ℕ) → form ≡ Run workers → (left new : Option (List ℕ)) (run : Option FinishedValue) (status : Status) {answer : List ℕ} → IsRunDue form left new run status answer → IsRunRefused left status
-refusal_from_due form workers is None new run status due = tt
-refusal_from_due form workers is (Some input) new run status due = due_refusal form workers is input new run status due
+refusal_from_due : (form : Threaded) → ReadsScript form → (left new : Option (List ℕ)) (run : Option FinishedValue) (status : Status) {answer : List ℕ} → IsRunDue form left new run status answer → IsRunRefused left status
+refusal_from_due form reads None new run status due = tt
+refusal_from_due form reads (Some input) new run status due = due_refusal form reads input new run status due
 
-long_from_due : (form : Threaded) (workers : ℕ) → form ≡ Run workers → (left new : Option (List ℕ)) (run : Option FinishedValue) (status : Status) {answer : List ℕ} → IsRunDue form left new run status answer → IsRunTooLong left status
-long_from_due form workers is None new run status due = tt
-long_from_due form workers is (Some input) new run status due = due_long form workers is input new run status due
+long_from_due : (form : Threaded) → ReadsScript form → (left new : Option (List ℕ)) (run : Option FinishedValue) (status : Status) {answer : List ℕ} → IsRunDue form left new run status answer → IsRunTooLong left status
+long_from_due form reads None new run status due = tt
+long_from_due form reads (Some input) new run status due = due_long form reads input new run status due
 
 run_from_fault : (left : Option (List ℕ)) (status : Status) → IsFault status → IsRunWithin left status
 run_from_fault None status f = tt
@@ -207,21 +211,21 @@ long_from_fault (Some input) status f = λ past. inr f
 
 module _ (form : Threaded) (old new : Outside) (run : Option FinishedValue) (status : Status) where
   -- a script is run, and a text that is none is refused, unless a fault comes
-  pub run_or_fault : EndsRun form old new run status → (workers : ℕ) → form ≡ Run workers → IsRunWithin old.left status
-  run_or_fault (delivered answer due _) workers is = run_from_due form workers is old.left new.left run status due
-  run_or_fault (cut _ s) workers is = run_from_fault old.left status (IsFault-at WriteFault status s tt)
-  run_or_fault (not_read _ _ _ _ _ s) workers is = run_from_fault old.left status (IsFault-at ReadFault status s tt)
-  run_or_fault (no_memory _ _ s) workers is = run_from_fault old.left status (IsFault-at OutOfMemory status s tt)
+  pub run_or_fault : EndsRun form old new run status → ReadsScript form → IsRunWithin old.left status
+  run_or_fault (delivered answer due _) reads = run_from_due form reads old.left new.left run status due
+  run_or_fault (cut _ s) reads = run_from_fault old.left status (IsFault-at WriteFault status s tt)
+  run_or_fault (not_read _ _ _ _ s) reads = run_from_fault old.left status (IsFault-at ReadFault status s tt)
+  run_or_fault (no_memory _ _ s) reads = run_from_fault old.left status (IsFault-at OutOfMemory status s tt)
 
-  pub refusal_or_fault : EndsRun form old new run status → (workers : ℕ) → form ≡ Run workers → IsRunRefused old.left status
-  refusal_or_fault (delivered answer due _) workers is = refusal_from_due form workers is old.left new.left run status due
-  refusal_or_fault (cut _ s) workers is = refusal_from_fault old.left status (IsFault-at WriteFault status s tt)
-  refusal_or_fault (not_read _ _ _ _ _ s) workers is = refusal_from_fault old.left status (IsFault-at ReadFault status s tt)
-  refusal_or_fault (no_memory _ _ s) workers is = refusal_from_fault old.left status (IsFault-at OutOfMemory status s tt)
+  pub refusal_or_fault : EndsRun form old new run status → ReadsScript form → IsRunRefused old.left status
+  refusal_or_fault (delivered answer due _) reads = refusal_from_due form reads old.left new.left run status due
+  refusal_or_fault (cut _ s) reads = refusal_from_fault old.left status (IsFault-at WriteFault status s tt)
+  refusal_or_fault (not_read _ _ _ _ s) reads = refusal_from_fault old.left status (IsFault-at ReadFault status s tt)
+  refusal_or_fault (no_memory _ _ s) reads = refusal_from_fault old.left status (IsFault-at OutOfMemory status s tt)
 
   -- and a longer input is too long
-  pub long_or_fault : EndsRun form old new run status → (workers : ℕ) → form ≡ Run workers → IsRunTooLong old.left status
-  long_or_fault (delivered answer due _) workers is = long_from_due form workers is old.left new.left run status due
-  long_or_fault (cut _ s) workers is = long_from_fault old.left status (IsFault-at WriteFault status s tt)
-  long_or_fault (not_read _ _ _ _ _ s) workers is = long_from_fault old.left status (IsFault-at ReadFault status s tt)
-  long_or_fault (no_memory _ _ s) workers is = long_from_fault old.left status (IsFault-at OutOfMemory status s tt)
+  pub long_or_fault : EndsRun form old new run status → ReadsScript form → IsRunTooLong old.left status
+  long_or_fault (delivered answer due _) reads = long_from_due form reads old.left new.left run status due
+  long_or_fault (cut _ s) reads = long_from_fault old.left status (IsFault-at WriteFault status s tt)
+  long_or_fault (not_read _ _ _ _ s) reads = long_from_fault old.left status (IsFault-at ReadFault status s tt)
+  long_or_fault (no_memory _ _ s) reads = long_from_fault old.left status (IsFault-at OutOfMemory status s tt)

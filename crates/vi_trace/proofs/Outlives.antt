@@ -76,7 +76,7 @@ no_update_behind lines i j k m page span holds a from share later u above below 
     ]
 
 pub nothing_outlives : NothingOutlivesItsAck
-nothing_outlives lines holds judged lawful i j m page span a upto within share later =
+nothing_outlives lines judged holds lawful i j m page span a upto within share later =
     let dropped = lawful.drops i j span a in
     let k : ℕ = dropped.0 in
     let from : i ≤ k = dropped.1 in

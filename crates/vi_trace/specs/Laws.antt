@@ -14,18 +14,24 @@ use Rattle.vi_trace.specs.Lawful.{Acknowledges, IsLawful, UpdatesAt, GrantsAt, A
 abbrev pub JudgedOnce : Type 0
 JudgedOnce = (lines : List TraceLine) (f g : Finding) → Judges nothing_known lines f → Judges nothing_known lines g → f ≡ g
 
--- Where a trace holds, no lawful cache has a page of an acknowledged span behind the Ack, before a later Update of
--- the page.
-abbrev pub NothingOutlivesItsAck : Type 0
-NothingOutlivesItsAck = (lines : List TraceLine) (holds : ℕ → ℕ → Bool) → Judges nothing_known lines Held → IsLawful lines holds
+-- no lawful cache has a page of an acknowledged span behind the Ack, before a later Update of the page
+abbrev pub NoCacheOutlivesAnAck : List TraceLine → Type 0
+NoCacheOutlivesAnAck lines = (holds : ℕ → ℕ → Bool) → IsLawful lines holds
     → (i j m page : ℕ) (span : Span) → Acknowledges lines i j span → j ≤ m → m < length lines → Meets (page_span page) span
     → ((u : ℕ) → j < u → u ≤ m → ¬ UpdatesAt lines u page)
     → holds (m + 1) page ≡ false
 
--- Where a trace holds, each use is of a page that the page's last Update above permits, and no Ack behind that Update
--- has taken the page back.
-abbrev pub UsesAreGranted : Type 0
-UsesAreGranted = (lines : List TraceLine) → Judges nothing_known lines Held → (m address : ℕ) (need : Need) → AccessesAt lines m address need
+-- each use is of a page that the page's last Update above permits, and no Ack behind that Update has taken the page back
+abbrev pub EachUseIsGranted : List TraceLine → Type 0
+EachUseIsGranted lines = (m address : ℕ) (need : Need) → AccessesAt lines m address need
     → (u : ℕ) × (u < m) × GrantsAt lines u (address / PAGE) need
     × ((v : ℕ) → u < v → v < m → ¬ UpdatesAt lines v (address / PAGE))
     × ((i j : ℕ) (span : Span) → Acknowledges lines i j span → u < j → j < m → ¬ Meets (page_span (address / PAGE)) span)
+
+-- what a trace that holds says of every lawful cache
+abbrev pub NothingOutlivesItsAck : Type 0
+NothingOutlivesItsAck = (lines : List TraceLine) → Judges nothing_known lines Held → NoCacheOutlivesAnAck lines
+
+-- and of the uses
+abbrev pub UsesAreGranted : Type 0
+UsesAreGranted = (lines : List TraceLine) → Judges nothing_known lines Held → EachUseIsGranted lines

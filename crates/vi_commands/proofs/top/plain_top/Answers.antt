@@ -1,5 +1,5 @@
 use Rattle.vi_commands.proofs.CommandLemmas.{command_in-form}
-use Rattle.vi_commands.proofs.EndLemmas.{usage_only, usage_or_fault, past_only, too_long_or_fault, text_written, script_written, made_or_fault, done_or_fault, refused_only, refused_or_fault, report_refused, verdict_written, read_fault_rose, write_fault_rose, refusal_text, text_cut}
+use Rattle.vi_commands.proofs.EndLemmas.{usage_only, usage_or_fault, past_only, too_long_or_fault, text_written, script_written, made_or_fault, done_or_fault, refused_only, refused_or_fault, report_refused, held_written, wrong_written, told_or_fault, trace_refused, read_fault_rose, write_fault_rose, refusal_text, text_cut}
 use Rattle.vi_commands.proofs.top.plain_top.Goals as goal
 
 pub carry_out-requires : goal.carry_out-requires
@@ -41,8 +41,17 @@ returns-clause-bad_script_always g c = rw (← c.parse.ensures) (refused_or_faul
 pub returns-clause-bad_report : goal.returns-clause-bad_report
 returns-clause-bad_report g c = rw (← c.parse.ensures) (report_refused _ _ _ _ c.carry_out.ensures.ends)
 
+pub returns-clause-held : goal.returns-clause-held
+returns-clause-held g c = rw (← c.parse.ensures) (held_written _ _ _ _ c.carry_out.ensures.ends)
+
+pub returns-clause-told : goal.returns-clause-told
+returns-clause-told g c = rw (← c.parse.ensures) (told_or_fault _ _ _ _ c.carry_out.ensures.ends)
+
+pub returns-clause-bad_trace : goal.returns-clause-bad_trace
+returns-clause-bad_trace g c = rw (← c.parse.ensures) (trace_refused _ _ _ _ c.carry_out.ensures.ends)
+
 pub returns-clause-wrong : goal.returns-clause-wrong
-returns-clause-wrong g c = rw (← c.parse.ensures) (verdict_written _ _ _ _ c.carry_out.ensures.ends)
+returns-clause-wrong g c = rw (← c.parse.ensures) (wrong_written _ _ _ _ c.carry_out.ensures.ends)
 
 pub returns-clause-read_fault : goal.returns-clause-read_fault
 returns-clause-read_fault g c = read_fault_rose _ _ _ _ c.carry_out.ensures.ends
