@@ -11,7 +11,7 @@ passed=0 failed=0
 
 # The commands that the script needs, without any rt; and the same with the stand-in.
 mkdir -p "$room/without" "$room/with" "$room/elsewhere"
-for tool in awk bash cat cksum dirname env find git grep mkdir mktemp nproc readlink rm sed sha256sum sort tail tee wc xargs; do
+for tool in awk bash cat cksum cp dirname env find git grep mkdir mktemp readlink rm sed sha256sum sort tail tar tee wc xargs; do
   if at=$(command -v "$tool"); then ln -s "$at" "$room/without/$tool"; fi
 done
 cat > "$room/with/rt" << 'R'
@@ -20,22 +20,24 @@ cat > "$room/with/rt" << 'R'
 set -eu
 echo "$* in $(basename "$PWD")" >> "$FAKE/calls"
 case "$1 ${2-}" in
-  'all check')
-    for crate in vi_bytes vi_history viommu; do printf '== %s\n%s: said\n' "$crate" "$crate"; done
+  'ci ')
+    for crate in vi_bytes vi_history viommu; do printf '== %s\n%s: said\nrt: %s proved\n' "$crate" "$crate" "$crate"; done
+    # what it was given, a name a line
+    sed 's/[ :].*//' crates.txt > "$FAKE/given"
+    find . -name must-fail -o -name out >> "$FAKE/given"
     if [ -e "$FAKE/no-check" ]; then
-      printf 'src/lib.rt:1:1: error[open-goal]: a goal is open\n== summary\nvi_bytes: ok\nviommu: failed (1)\n'
+      printf 'src/lib.rt:1:1: error[open-goal]: a goal is open\nrt: viommu NOT PROVED\nrt: FAILED: viommu\n2 passed, 1 failed\n'
       exit 1
     fi
-    printf '== summary\nvi_bytes: ok\n3 of 3 crates ok\n' ;;
-  'run --')
-    if [ -e "$FAKE/no-run" ]; then echo 'error: it does not link' >&2; exit 1; fi
-    cp "$FAKE/program" out/viommu
-    echo 'rt: running out/viommu' >&2
-    shift 2; exec out/viommu "$@" ;;
+    mkdir -p crates/viommu/out
+    if [ ! -e "$FAKE/no-program" ]; then cp "$FAKE/program" crates/viommu/out/viommu; fi
+    printf '3 passed, 0 failed\n' ;;
   'try --')
     if [ -e "$FAKE/no-try" ]; then printf 'error[type]: of two types\nrun=none proved=no\n' >&2; exit 1; fi
-    if [ -e "$FAKE/hangs" ]; then printf 'run=no-answer runners=1 proved=no\n' >&2; exit 6; fi
+    if [ -e "$FAKE/hangs" ]; then printf 'races: not looked for\nrun=no-answer runners=1 proved=no\n' >&2; exit 6; fi
+    if [ -e "$FAKE/warns" ]; then printf 'warning: of rt\n' >&2; fi
     shift 2; status=0; "$FAKE/program" "$@" || status=$?
+    printf 'checked: ended status=%s\nraces: not looked for, since a kit has no ThreadSanitizer\n' "$status" >&2
     echo "run=ended status=$status runners=1 races=unchecked proved=no" >&2
     exit "$status" ;;
   *) exit 99 ;;
@@ -49,7 +51,7 @@ cat
 exit "$(cat "$FAKE/status")"
 R
 chmod +x "$room/with/rt" "$room/program"
-for tool in basename cp; do ln -s "$(command -v "$tool")" "$room/with/$tool"; done
+for tool in basename; do ln -s "$(command -v "$tool")" "$room/with/$tool"; done
 echo 0 > "$room/status"
 export FAKE=$room
 
@@ -95,7 +97,7 @@ has() {
   esac
 }
 
-builds() { grep -c '^all check' "$calls" || true; }
+builds() { grep -c '^ci in' "$calls" || true; }
 
 line=$'\n'
 
@@ -112,7 +114,7 @@ same 'try without a toolchain: the status' "$status" 69
 status=0
 PATH=$room/without "$here/viommu" --help > "$room/out" || status=$?
 same 'help: the status' "$status" 0
-for form in 'viommu one' 'viommu run W' 'viommu sim S T' 'viommu check' 'viommu make N' 'viommu load N W' 'viommu build' 'viommu try'; do
+for form in 'viommu one' 'viommu run W' 'viommu sim S T' 'viommu check' 'viommu make N' 'viommu load N W' 'viommu dirty K W' 'viommu trace' 'viommu build' 'viommu try'; do
   has 'help: each form' "$(cat "$room/out")" "$form"
 done
 
@@ -121,7 +123,9 @@ call run 4 <<< 'memory 1'
 same 'first call: the status' "$status" 0
 same 'first call: the output is the program alone' "$out" "<run><4>${line}memory 1$line"
 has 'first call: a line for each crate' "$said" '] vi_history, '
-same 'first call: what rt was asked' "$(sed 's/jobs [0-9]*/jobs N/' "$calls")" "all check --jobs N in viommu${line}run -- one in viommu"
+same 'first call: what rt was asked' "$(sed 's/ in .*//' "$calls")" ci
+same 'first call: the crates that it needs' "$(grep -cE '^(vi_bytes|vi_threaded|viommu|vi_bench_c|tests_core)$' "$room/given")" 3
+same 'first call: no wrong edits, nothing built' "$(grep -cE 'must-fail|out$' "$room/given")" 0
 call run 4 <<< 'memory 2'
 same 'second call: the output' "$out" "<run><4>${line}memory 2$line"
 same 'second call: nothing is built' "$(builds)" 1
@@ -133,7 +137,7 @@ same 'build again: the status' "$status" 0
 same 'build again: nothing is built' "$(builds)" 1
 
 # The program's status is the script's.
-for wanted in 2 3 4 5 6 7 8 10; do
+for wanted in 2 3 4 5 6 7 8 10 14; do
   echo "$wanted" > "$room/status"
   call one < /dev/null
   same "the status $wanted" "$status" "$wanted"
@@ -170,13 +174,13 @@ call one < /dev/null
 same 'not proved: the status' "$status" 70
 same 'not proved: the old program is not run' "$out" ''
 has 'not proved: the error' "$said" 'error[open-goal]'
-has 'not proved: which crate' "$said" 'viommu: failed (1)'
+has 'not proved: which crate' "$said" 'viommu NOT PROVED'
 rm "$room/no-check"
-touch "$room/no-run"
+touch "$room/no-program"
 call one < /dev/null
 same 'not linked: the status' "$status" 70
-has 'not linked: the error' "$said" 'it does not link'
-rm "$room/no-run"
+has 'not linked: it is said' "$said" 'no program was linked'
+rm "$room/no-program"
 call one < /dev/null
 same 'built after that' "$status$out" "0<one>$line"
 fresh_copy
@@ -211,6 +215,8 @@ call run 4 'a script'
 same 'run W FILE' "$out" "<run><4>${line}memory 1$line"
 call sim 0 7 'a script'
 same 'sim S T FILE' "$out" "<sim><0><7>${line}memory 1$line"
+call dirty 3 4 'a script'
+same 'dirty K W FILE' "$out" "<dirty><3><4>${line}memory 1$line"
 call check 'a script'
 same 'check FILE' "$out" "<check>${line}memory 1$line"
 call check 'a script' report
@@ -251,7 +257,13 @@ call try sim 0 0 'a script'
 same 'try: the output' "$out" "<sim><0><0>${line}memory 1$line"
 same 'try: the status' "$status" 0
 same 'try: what rt was asked' "$(cat "$calls")" 'try -- sim 0 0 in viommu'
-has 'try: what rt said' "$said" 'proved=no'
+has 'try: it is said that nothing is proved' "$said" 'compiled with no proof'
+same 'try: how rt says that it ended is left out' "$(wc -l < "$room/said")" 1
+touch "$room/warns"
+call try one < /dev/null
+has 'try: what else rt says' "$said" 'warning: of rt'
+same 'try: what else rt says, and no more' "$(wc -l < "$room/said")" 2
+rm "$room/warns"
 call try one <<< 'memory 3'
 same 'try: standard input' "$out" "<one>${line}memory 3$line"
 echo 4 > "$room/status"
@@ -261,6 +273,7 @@ echo 0 > "$room/status"
 touch "$room/hangs"
 call try one < /dev/null
 same 'try: no end' "$status" 70
+has 'try: no end, what rt said' "$said" 'races: not looked for'
 rm "$room/hangs"
 touch "$room/no-try"
 call try one < /dev/null
