@@ -11,7 +11,8 @@ import time
 
 ROUNDS = int(os.environ.get("ROUNDS", "9"))
 COMMANDS = os.environ.get("COMMANDS", "one,sim 0 0,run 1,run 2,run 4").split(",")
-INPUTS = os.environ.get("INPUTS", "make400 maps pages").split()
+DIRTY = [it for it in os.environ.get("DIRTY", "dirty 1 4,dirty 1000 4").split(",") if it]
+INPUTS = os.environ.get("INPUTS", "make400 maps pages writes uses.trace acks.trace").split()
 COUNTS = os.environ.get("COUNT", "") not in ("", "0")
 # A `rep` instruction would be counted once a byte: the C library clears and copies in loops in its place.
 LOOPS = "glibc.cpu.x86_rep_stosb_threshold=4000000000:glibc.cpu.x86_rep_movsb_threshold=4000000000"
@@ -45,6 +46,13 @@ def judged(program, source, report):
     return subprocess.run([program, "check"], input=both, stdout=subprocess.PIPE, check=False).stdout[:40].decode().strip()
 
 
+def commands_for(name):
+    """What is timed on an input: a trace is no script, and pages are asked for where many are written."""
+    if name.endswith(".trace"):
+        return ["trace"]
+    return COMMANDS + (DIRTY if name in ("make400", "writes") else [])
+
+
 def text(path):
     with open(path, "rb") as file:
         return file.read()
@@ -76,7 +84,7 @@ def table(folder, programs):
     print("|" + "---|" * (len(heads) + 2 * (len(programs) > 1)))
     bad = 0
     for name in INPUTS:
-        for command in COMMANDS:
+        for command in commands_for(name):
             rows, wrong = timed(folder, os.path.join(folder, name), command, programs)
             cells = [f"{row[it]:.1f}" for row in rows for it in (0, 2, 1, 3)]
             if len(rows) > 1:
@@ -90,7 +98,7 @@ def counts(folder, programs):
     print("| Input | Command | PROGRAM | " + "OTHER | Ratio |" * (len(programs) > 1))
     print("|---|---|---|" + "---|---|" * (len(programs) > 1))
     for name in INPUTS:
-        for command in COMMANDS:
+        for command in commands_for(name):
             got = [instructions([it, *command.split()], os.path.join(folder, name)) for it in programs]
             cells = [f"{it:,}" for it in got] + [f"{got[0] / it:.2f}" for it in got[1:]]
             print(f"| {name} | `{command}` | " + " | ".join(cells) + " |", flush=True)

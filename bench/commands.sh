@@ -1,9 +1,11 @@
 #!/usr/bin/env bash
 # Times the commands of a program, or of two side by side: bench/commands.sh PROGRAM [OTHER].
 #
-# The inputs are `make 400` and two that this script makes: many mappings of one domain with as many reads, and transfers
-# of disjoint pages. With two programs they take turns in one run, and the ratio is that of PROGRAM to OTHER. No part of the
-# gate. ROUNDS=9 says how often each is run, COMMANDS='one,sim 0 0,run 1,run 2,run 4' which are, INPUTS (words) on what.
+# The inputs are `make 400` and five that this script makes: many mappings of one domain with as many reads, transfers
+# of disjoint pages, writes in 17 parts, and two traces for `trace`, which is all that is timed on these. The pages that were
+# written are asked for where they are many: DIRTY='dirty 1 4,dirty 1000 4' on `make 400` and on the writes in parts, and
+# DIRTY= leaves that out (for an OTHER that knows no `dirty`). With two programs they take turns in one run, and the ratio is
+# that of PROGRAM to OTHER. No part of the gate. ROUNDS=9 says how often each is run, COMMANDS='one,sim 0 0,run 1,run 2,run 4' which are, INPUTS (words) on what.
 # COUNT=1 counts instructions with valgrind in place of time, once each: these don't depend on what else the machine does.
 set -euo pipefail
 if [ $# -lt 1 ] || [ $# -gt 2 ]; then
@@ -57,4 +59,42 @@ awk 'BEGIN {
     print "b" e " read " r % 4 * 65536 " 65536" after
   }
 }' > "$room/pages"
+# 6 writes of 61,442 bytes from the last byte of a page on, so of 17 parts each, which is what a script's text has place for
+# beside 9,000 writes of two bytes across two pages: 18,102 written parts of 64 pages.
+awk 'BEGIN {
+  print "memory 64"
+  print "cache 64"
+  print "endpoint 1"
+  print "d0 attach 1 1"
+  print "d0 map 1 0 262143 0 rw"
+  bytes = "5a"
+  while (length(bytes) < 2 * 61442) bytes = bytes bytes
+  for (i = 0; i < 6; i++) print "b1 write " 4095 + 4096 * i " " substr(bytes, 1, 2 * 61442) (i == 0 ? " after d0.2" : "")
+  for (i = 0; i < 9000; i++) print "b1 write " 4095 + 4096 * (i * 37 % 63) " 5a5a"
+}' > "$room/writes"
+# Traces of 1,048,576 bytes, filled up by a line that says nothing: Updates of scattered pages with a use of each, and Updates
+# with pairs of an Invalidate and its Ack below them.
+trace() {
+  awk -v of="$1" '
+  function bytes(page) { return sprintf("00%x0%02x%02x00000000", page % 16, int(page / 16) % 256, int(page / 4096)) }
+  function put(line) { print line; left -= length(line) + 1 }
+  function update(page) { put("down 160000000100000020000000" bytes(page) "0010000000000000" "00000000007f0000" "0302000000000000") }
+  function invalidate(page) { put("down 160000000900000020000000" bytes(page) "0010000000000000" "0000000000000000" "0003000000000000") }
+  BEGIN {
+    left = 1048576
+    for (i = 0; left > (of == "uses" ? 300 : 524288); i++) {
+      page = 1 + (i * 7919) % 65521
+      update(page)
+      if (of == "uses") put("use " page * 4096 " w")
+    }
+    for (i = 0; left > 300; i++) {
+      invalidate(1 + (i * 7919) % 65521)
+      put("up 1600000005000000080000000000000000000000")
+    }
+    while (left > 1) { printf "#"; left-- }
+    print ""
+  }'
+}
+trace uses > "$room/uses.trace"
+trace acks > "$room/acks.trace"
 python3 "$here/commands.py" "$room" "$@"
