@@ -338,7 +338,7 @@ def less(files, others):
 # The parts of the promise: their clause, what isn't followed, and what was read for parts before.
 HISTORY = ("IsWellMade", "IsOrdered", "IsLegalHistory", "HasRecords", "FaultsBehindUnmaps", "IsTyped", "text")
 COMMANDS = (("one", "ok", {"WritesReport", "WritesLegal"}), ("check", "ok", {"WritesReport", "WritesReplies"}),
-            ("make", "made", set()), ("sim", "ok", {"WritesReplies", "WritesLegal"}))
+            ("make", "made", set()), ("trace", "held", set()), ("sim", "ok", {"WritesReplies", "WritesLegal"}))
 
 
 def history_of(whole):

@@ -4,6 +4,8 @@
 # Each NAME.viommu says in a comment how NAME.report was made ('Run it by: ./viommu WORDS examples/NAME.viommu'), and may
 # say which other report `check` refuses, and how ('Refused by ./viommu check SCRIPT REPORT: VERDICT'). Each report is
 # also judged by `check`, and so is a run of each script on 1, 4 and 16 workers, since these differ from call to call.
+# It may also name a file that stands below the report with other words ('Below the report stands FILE with ./viommu WORDS SCRIPT').
+# Each NAME.trace says what is found of it ('Said by ./viommu trace examples/NAME.trace: FINDING').
 # It stands outside the gate, and ends with 'N passed, M failed'.
 set -euo pipefail
 if [ $# -ne 1 ]; then
@@ -52,6 +54,12 @@ for script in examples/*.viommu; do
     same "$script: check of run $workers" "$room/legal" "$room/verdict"
   done
   judged="$judged $report"
+  while read -r below words; do
+    # shellcheck disable=SC2086
+    "$program" $words < "$script" > "$room/report" || true
+    cat "$report" "$below" > "$room/wanted"
+    same "$script: $words" "$room/wanted" "$room/report"
+  done < <(sed -n "s|^# Below the report stands \([^ ]*\) with \./viommu \(.*\) $script\$|\1 \2|p" "$script")
   while read -r of report wanted; do
     verdict "$of" "${report%:}"
     echo "$wanted" > "$room/wanted"
@@ -69,6 +77,12 @@ for report in examples/*.report; do
       echo "$report: no script names it"
       ;;
   esac
+done
+
+for trace in examples/*.trace; do
+  sed -n "s|^# Said by \./viommu trace $trace: ||p" "$trace" > "$room/wanted"
+  "$program" trace < "$trace" > "$room/finding" || true
+  same "$trace: trace" "$room/wanted" "$room/finding"
 done
 
 examples/schedules.sh "$program" > "$room/schedules"

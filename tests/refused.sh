@@ -217,13 +217,18 @@ for name in first faults removal; do
   for words in 'sim 0 0' one 'run 4'; do refuse_all "$words" "$script" 0; done
   refuse_all check "$room/$name.judged" 0
 done
-# What is refused too: a bad script, a report that is wrong, one that isn't one, and wrong words.
+refuse_all trace examples/acknowledged.trace 0
+# What is refused too: a bad script, a report that is wrong, one that isn't one, a trace in which a rule is broken, a text
+# that is none, and wrong words.
 printf 'memory 1\nendpoint 7\nsomething else\n' > "$room/bad"
 { cat examples/removal.viommu; echo report; cat examples/stale.report; } > "$room/wrong.judged"
 { cat examples/first.viommu; echo report; echo nothing; } > "$room/bad.judged"
 refuse_all one "$room/bad" 3
 refuse_all check "$room/wrong.judged" 7
 refuse_all check "$room/bad.judged" 10
+refuse_all trace examples/stale.trace 7
+printf 'sideways 00\n' > "$room/bad.trace"
+refuse_all trace "$room/bad.trace" 14
 refuse_all 'load 1 1' "$room/nothing" 0
 refuse_all 'make 1' "$room/nothing" 0
 refuse_all 'two words' "$room/nothing" 2
@@ -235,6 +240,8 @@ done
 refuse_each check "$room/first.judged" read 0 1
 refuse_each check "$room/first.judged" write 0 1
 refuse_each 'load 1 1' "$room/nothing" write 0 1
+refuse_each trace examples/acknowledged.trace read 0 1
+refuse_each trace examples/acknowledged.trace write 0 1
 [ "$tried" -gt 1000 ] || { failed=$((failed + 1)); echo "only $tried runs were refused something"; }
 
 echo "$passed passed, $failed failed"

@@ -74,14 +74,14 @@ def examples_are_drawn():
         name, report = os.path.basename(script), script.removesuffix(".viommu") + ".report"
         entries = int(read(os.path.basename(report)).split()[2])
         status, out, said = call("show.py", script, report)
-        ask(f"{name}: table", (status, said, out.count("\n")), (0, "", entries + 2))
+        ask(f"{name}: table", (status, said, out.count("\n")), (0, "", entries + 3))
         status, out, said = call("show.py", script, report, "--json")
         drawn = json.loads(out)
         ask(f"{name}: json", (status, said, len(drawn["entries"]), drawn["misfit"]), (0, "", entries, None))
         waits = sum(len(entry["waited"]) for entry in drawn["entries"])
         status, out, said = call("show.py", script, report, "--mermaid")
         ask(f"{name}: mermaid", (status, said, out.splitlines()[0], out.count(">>dev") + out.count("-xdev"), out.count("Note over")),
-            (0, "", "sequenceDiagram", entries, waits))
+            (0, "", "sequenceDiagram", entries, waits + 1))
         ask(f"{name}: mermaid, its lines", [line for line in out.splitlines()[1:] if not MERMAID.fullmatch(line)], [])
         status, out, said = call("show.py", script, report, "--html")
         is_closed, counts = tags_of(out)
@@ -221,6 +221,22 @@ def rules_are_named(program):
     ask("rules: each of a request is here", len({rule.split(" -> ")[0] for rule in want if rule.split(":")[0].lower() in tables}), 30)
 
 
+def unbuilt_is_refused(room):
+    """The script `viommu` isn't asked for an answer while that would build the program; both tools print their help."""
+    script, asked = os.path.join(room, "unbuilt"), os.path.join(room, "asked")
+    with open(script, "w", encoding="ascii") as file:
+        file.write(f"#!/bin/sh\necho \"$@\" >> '{asked}'\necho \"the program isn't built from these sources\"\n")
+    os.chmod(script, 0o755)
+    status, out, said = call("ask.py", script, data="memory 1\n")
+    ask("unbuilt", (status, out, said.startswith("ask.py: ") and "./viommu build" in said), (2, "", True))
+    with open(asked, encoding="ascii") as file:
+        ask("unbuilt: what was asked", file.read(), "--version\n")
+    for tool in ("show.py", "ask.py"):
+        for word in ("--help", "-h"):
+            status, out, said = call(tool, word)
+            ask(f"{tool} {word}", (status, f"tools/{tool} " in out, said), (0, True, ""))
+
+
 def prompts(program, room):
     """Refused lines are dropped, a script can be taken in, and what is no viommu is refused."""
     status, out, said = call("ask.py", program, data="hello\nendpoint 7\nd0 probe 7 after b7.1\nd0\tprobe 7\n\nd0 probe 7\n\n")
@@ -229,10 +245,11 @@ def prompts(program, room):
     ask("the script so far", (lines[4], lines[-2:]), ("  endpoint 7", ["  endpoint 7", "  d0 probe 7"]))
     status, out, said = call("ask.py", program, os.path.join(EXAMPLES, "first.viommu"), data="b7 read 0x1002 1\n?\n")
     ask("a script first", (status, "  5 b7.3.1 read 63" in out.splitlines(), "  `bE read A LEN`" in out.splitlines()), (0, True, True))
-    for words in ((), ("--help",), (program, "a", "b"), (os.path.join(room, "absent"),), (shutil.which("true"),), (shutil.which("false"),),
+    for words in ((), ("--pdf",), (program, "a", "b"), (os.path.join(room, "absent"),), (shutil.which("true"),), (shutil.which("false"),),
                   (room,), (program, os.path.join(room, "absent")), (program, os.path.join(EXAMPLES, "first.report"))):
         status, out, said = call("ask.py", *words)
         ask(f"ask.py {words}", (status, out, said.startswith("ask.py: "), said.count("\n")), (2, "", True, 1))
+    unbuilt_is_refused(room)
     top = os.path.join(room, "top")
     shutil.copytree(os.path.join(TOP, "tools"), os.path.join(top, "tools"))
     os.mkdir(os.path.join(top, "docs"))

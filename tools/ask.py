@@ -2,6 +2,10 @@
 """A prompt on the reference device: type a line of a script, and see its reply and the rule that gives it.
 
     tools/ask.py PROGRAM [SCRIPT]
+    tools/ask.py --help
+
+PROGRAM is ./viommu, once `./viommu build` has proved and built it. It is asked at every line, so `./viommu try`, which compiles for a
+minute each time, won't do.
 
 Each line is put after those before it, and `PROGRAM one` answers the whole again, so what is shown is always the program's own
 report. With it come the status's name and the rule of docs/FORMATS.md that gives it. A refused line is shown with its kind and
@@ -20,6 +24,10 @@ from reading import FAULTS, PAGE, STATUSES, number
 DOCUMENT = os.path.join(os.path.dirname(os.path.abspath(__file__)), "..", "docs", "FORMATS.md")
 
 
+UNBUILT = "isn't built from these sources"
+WANTED = "PROGRAM is ./viommu, once `./viommu build` has proved and built it, in about 20 minutes on 4 processors"
+
+
 class Unusable(Exception):
     """The program that was named answers as no viommu does."""
 
@@ -27,6 +35,16 @@ class Unusable(Exception):
 def stop(text):
     print(f"ask.py: {text}", file=sys.stderr)
     sys.exit(2)
+
+
+def need_built(program):
+    """Refuses the script `viommu` while it would first prove and build the program for whoever asks. The program itself has no --version."""
+    try:
+        done = subprocess.run([program, "--version"], stdin=subprocess.DEVNULL, stdout=subprocess.PIPE, stderr=subprocess.DEVNULL)
+    except OSError as fault:
+        stop(f"{program}: {fault.strerror}; {WANTED}")
+    if UNBUILT in done.stdout.decode("latin-1"):
+        stop(f"{program} {UNBUILT}; {WANTED}")
 
 
 def one(program, lines):
@@ -133,8 +151,12 @@ def begin(session, path):
 
 
 def main():
+    if sys.argv[1:] in (["--help"], ["-h"]):
+        print(__doc__.strip())
+        return
     if len(sys.argv) not in (2, 3) or sys.argv[1].startswith("-"):
         stop("usage: tools/ask.py PROGRAM [SCRIPT]")
+    need_built(sys.argv[1])
     try:
         with open(DOCUMENT, encoding="utf-8") as file:
             known = rules.read_rules(file.read())

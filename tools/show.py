@@ -2,10 +2,12 @@
 """Draws the history of a report, one lane for each actor and one row for each entry.
 
     tools/show.py SCRIPT REPORT [--mermaid | --html | --json]
+    tools/show.py --help
 
 Without a flag it writes a table for the terminal; with --mermaid a sequence diagram as text, as GitHub and many editors draw
 it; with --html one page that needs nothing else; with --json one JSON object. It draws what the report says and judges no
-answer: `viommu check` does. A report that doesn't fit its script is drawn as far as it goes, with the first misfit named.
+answer, as each drawing says: `viommu check` does. A report that doesn't fit its script is drawn as far as it goes, with the first
+misfit named.
 
 The status is 0, or 1 where there is a misfit, or 2 where the words, the script or the report can't be read.
 """
@@ -37,6 +39,7 @@ STYLE = """
   #tip path { fill: #3b5bdb; }
 """
 LANE, ROW, BOX, HEAD, LEFT = 296, 62, 248, 64, 46
+NOT_JUDGED = "drawn as reported and not judged: viommu check tells whether it could have happened"
 
 
 def cut(text, most):
@@ -65,6 +68,7 @@ def table(history):
         waits = ", ".join(f"{name} ({of})" for name, of in entry.waited)
         yield f"{entry.number:4} {cells}  {waits}".rstrip()
     yield history.faults or "(the report isn't drawn further)"
+    yield f"({NOT_JUDGED})"
 
 
 def mermaid(history):
@@ -81,6 +85,7 @@ def mermaid(history):
         yield f"  {caller}{arrow}dev: {entry.number}. {cut(entry.line.job, 40)} = {answered(entry)}"
     if history.misfit:
         yield "  Note over dev: here it ends - " + re.sub("[;#:]", ",", history.misfit)
+    yield "  Note over dev: " + re.sub("[;#:]", ",", NOT_JUDGED)
 
 
 def as_json(history):
@@ -146,7 +151,7 @@ def page(history, title):
     if history.misfit:
         yield f'<p class="misfit">The report doesn\'t fit its script, and is drawn as far as it goes: {html.escape(history.misfit)}.</p>'
     yield from drawing(history)
-    yield f"<p>{html.escape(history.faults)}</p></body></html>"
+    yield f"<p>{html.escape(history.faults)}</p><p>{html.escape(NOT_JUDGED.capitalize())}.</p></body></html>"
 
 
 def stop(text):
@@ -164,6 +169,9 @@ def text_of(path):
 
 
 def main():
+    if sys.argv[1:] in (["--help"], ["-h"]):
+        print(__doc__.strip())
+        return
     words = [word for word in sys.argv[1:] if not word.startswith("--")]
     flags = [word for word in sys.argv[1:] if word.startswith("--")]
     forms = {"--mermaid": mermaid, "--json": as_json}
