@@ -26,6 +26,7 @@
 #![tactic(auto)]
 
 mod grants;
+mod marks;
 mod row;
 
 pub use grants::Grants;

@@ -3,8 +3,10 @@ ghost use Rattle.std.specs.Prelude.{◌≡◌, ℕ, ◌-◌, ◌≤◌, ◌↔�
 ghost use Rattle.std.specs.List.{list_any};
 ghost use Rattle.vi_bytes.specs.Spans.{IsProper};
 ghost use Rattle.vi_bytes.specs.Leases.{IsLease, HasPage};
+ghost use Rattle.vi_grants.specs.Marks.{AreMarked};
 ghost use Rattle.vi_grants.specs.Rows.{IsRow, IsGrant, HasRoom, grant_of, others, granted, is_met, without_span, empty_row};
 
+use crate::marks::Marks;
 use std::alloc::{AllocError, Global};
 use std::marker::Model;
 use vi_bytes::{Lease, Span};
@@ -22,10 +24,13 @@ pub struct Grant {
 pub struct Row {
     grants: Vec<Grant>,
     spare: u32,
+    // Which pages were asked for: most grants are for another page than any before, and the grants are many.
+    marks: Marks,
 }
 
 impl Model for Row {
-    ghost use Rattle.std.specs.Prelude.{◌+◌, ◌<◌, ◌≤◌, ◌^◌, vec_len, vec_capacity};
+    ghost use Rattle.std.specs.Prelude.{◌+◌, ◌<◌, ◌≤◌, ◌^◌, length, vec_len, vec_capacity};
+    ghost use Rattle.vi_grants.specs.Marks.{AreMarked};
     ghost use Rattle.vi_grants.specs.Rows.{GrantRow, IsRow};
 
     ghost Value = { GrantRow };
@@ -34,7 +39,9 @@ impl Model for Row {
 
     ghost invariant = { λ r. IsRow (record { grants = r.grants.items; spare = r.spare })
         × (vec_len r.grants + r.spare ≤ vec_capacity r.grants)
-        × (vec_len r.grants + r.spare < 2 ^ 32) };
+        × (vec_len r.grants + r.spare < 2 ^ 32)
+        × (0 < length r.marks)
+        × AreMarked r.marks r.grants.items };
 }
 
 impl Row {
@@ -44,7 +51,12 @@ impl Row {
         ensures row { IfOk result IsRow }
     {
         let grants = Vec::with_capacity(alloc, spare as usize)?;
-        Ok(Row { grants, spare })
+        let marks = Marks::for_pages(alloc, spare)?;
+        Ok(Row {
+            grants,
+            spare,
+            marks,
+        })
     }
 
     /// Whether there is a grant for the page, or room for one.
@@ -62,8 +74,9 @@ impl Row {
         ensures granted { self.new ≡ granted asked lease self.old }
         ensures row { IsRow self.new }
     {
-        let had = leave_others(&mut self.grants, asked);
+        let had = take_out(&mut self.grants, &self.marks, asked);
         self.spare = room_left(self.spare, had);
+        self.marks.mark(asked);
         self.grants.push_reserved(Grant { asked, lease });
     }
 
@@ -129,7 +142,21 @@ fn any_meets(grants: &[Grant], span: &Span) -> bool
     false
 }
 
-// Takes out the grant for the page, and answers whether there was one. The row is walked once, as it is long.
+// Takes out the grant for the page, and answers whether there was one.
+fn take_out(grants: &mut Vec<Grant>, marks: &Marks, asked: u64) -> bool
+    requires { AreMarked marks.now grants.old.items }
+    ensures had { result ≡ is_some (grant_of asked grants.old.items) }
+    ensures items { grants.new.items ≡ others asked grants.old.items }
+    ensures fewer { vec_len grants.new ≤ vec_len grants.old }
+    ensures capacity { vec_capacity grants.new ≡ vec_capacity grants.old }
+{
+    if !marks.has(asked) {
+        return false;
+    }
+    leave_others(grants, asked)
+}
+
+// The same by one walk over all of them.
 fn leave_others(grants: &mut Vec<Grant>, asked: u64) -> bool
     ensures had { result ≡ is_some (grant_of asked grants.old.items) }
     ensures items { grants.new.items ≡ others asked grants.old.items }

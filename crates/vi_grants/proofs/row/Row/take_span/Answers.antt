@@ -2,6 +2,7 @@ use Rattle.std.proofs.Common.{◌≡◌, not, length, refl, arith}
 use Rattle.vi_grants.specs.Rows.{GrantRow, is_met}
 use Rattle.vi_grants.proofs.Finds.{count_by-from_lengths}
 use Rattle.vi_grants.proofs.RowLemmas.{IsRow-filter}
+use Rattle.vi_grants.proofs.MarkLemmas.{AreMarked-filter}
 use Rattle.vi_grants.proofs.row.Row.take_span.Goals as goal
 
 pub invariant_of-self : goal.invariant_of-self
@@ -10,6 +11,8 @@ invariant_of-self c =
       rw c.leave_unmet.ensures.items (IsRow-filter (λ g. not (is_met c.args.span.now g)) row _ c.self.invariant.0),
       omega (arith, c.self.invariant.1, c.len-had.ensures, c.len.ensures, c.leave_unmet.ensures.fewer, c.leave_unmet.ensures.capacity),
       omega (arith, c.self.invariant.2, c.len-had.ensures, c.len.ensures, c.leave_unmet.ensures.fewer),
+      c.self.invariant.3,
+      rw c.leave_unmet.ensures.items (AreMarked-filter c.self.inside.marks (λ g. not (is_met c.args.span.now g)) c.self.inside.grants.items c.self.invariant.4),
     )
 
 pub returns-clause-answer : goal.returns-clause-answer
