@@ -1,8 +1,8 @@
 -- What marks tell of grants.
-use Rattle.std.proofs.Common.{◌≡◌, ◌==◌, ℕ, ◌%◌, ◌<◌, Bool, true, false, cond, not, List, [], ◌∷◌, ◌++◌, All, None, Some, length, get_or, set, length-set, refl, sym, ap, ◌∙◌, arith}
-use Rattle.std.specs.List.{filter, find}
+use Rattle.std.proofs.Common.{◌≡◌, ◌==◌, ℕ, ◌<◌, Bool, true, false, cond, not, List, [], ◌∷◌, ◌++◌, None, Some, length, get_or, set, length-set, refl, sym, ap, ◌∙◌, arith}
+use Rattle.std.specs.List.{filter}
 use Rattle.std.proofs.Math.Nat.{mod-lt}
-use Rattle.std.proofs.lemmas.Bool.{cases_Bool, eqb-true}
+use Rattle.std.proofs.lemmas.Bool.{eqb-true}
 use Rattle.std.proofs.lemmas.List.{get_or-set_same, get_or-set_other}
 use Rattle.std.proofs.lemmas.List.Elements.{All-head, All-tail, All-push, All-filter}
 use Rattle.std.proofs.lemmas.Bool.Decides.{nat_tests}

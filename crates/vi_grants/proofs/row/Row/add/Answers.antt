@@ -30,8 +30,8 @@ invariant_of-self c =
       omega (arith, kept, left, in_u32, c.push_reserved.ensures.len, c.take_out-had.new.grants.ok.0),
       rw (c.mark.ensures) (omega (arith, c.self.invariant.3, length-set c.self.inside.marks (slot_of c.args.asked (length c.self.inside.marks)) true)),
       rw (c.mark.ensures, c.push_reserved.ensures.items, c.take_out-had.ensures.items)
-      (AreMarked-push c.self.inside.marks c.self.invariant.3 (others c.args.asked c.self.inside.grants.items) (record { asked = c.args.asked; lease = c.args.lease })
-      (AreMarked-filter c.self.inside.marks (λ (g : Grant). not (g.asked == c.args.asked)) c.self.inside.grants.items c.self.invariant.4)),
+          (AreMarked-push c.self.inside.marks c.self.invariant.3 (others c.args.asked c.self.inside.grants.items) (record { asked = c.args.asked; lease = c.args.lease })
+          (AreMarked-filter c.self.inside.marks (λ (g : Grant). not (g.asked == c.args.asked)) c.self.inside.grants.items c.self.invariant.4)),
     )
 
 pub returns-clause-row : goal.returns-clause-row
