@@ -19,7 +19,7 @@ fn a_round_lasts_as_long_as_somebody_moves(rt: HostRuntime) -> Result<(), Fail> 
     let round = Round::new(false);
     let mut waiting = Waiting::default();
     for look in 0..1000u32 {
-        round.moved();
+        round.moved(1);
         waiting.look(&round);
         assert!(rt; !waiting.is_over, "{look}");
     }
@@ -35,7 +35,7 @@ fn a_lone_worker_ends_its_round_where_nothing_moves(rt: HostRuntime) -> Result<(
     let round = Round::new(true);
     let mut waiting = Waiting::default();
     for look in 0..1000u32 {
-        round.moved();
+        round.moved(1);
         waiting.look(&round);
         assert!(rt; !waiting.is_over, "{look}");
     }
@@ -43,5 +43,18 @@ fn a_lone_worker_ends_its_round_where_nothing_moves(rt: HostRuntime) -> Result<(
         waiting.look(&round);
     }
     assert!(rt; waiting.is_over);
+    Ok(())
+}
+
+#[test]
+fn sharing_pays_where_actors_move_often_in_a_row(rt: HostRuntime) -> Result<(), Fail> {
+    let round = Round::new(false);
+    assert!(rt; !round.pays());
+    round.moved(7);
+    assert!(rt; !round.pays());
+    round.moved(9);
+    assert!(rt; round.pays());
+    round.moved(1);
+    assert!(rt; !round.pays());
     Ok(())
 }

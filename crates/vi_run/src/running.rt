@@ -18,9 +18,15 @@ use vi_turns::{Pass, Shared};
 /// How many turns an actor takes in a row at most, as long as it moves.
 const IN_A_ROW: u32 = 64;
 
+/// How many turns a worker takes at most until all workers meet.
+const TURNS: u32 = 4096;
+
+/// The same in the first round, which shows whether it pays to share the actors.
+const TURNS_TRIED: u32 = 128;
+
 /// Runs all actors on 1 to 16 workers until every line is finished, and joins their passes. Each worker has some of the actors; in
-/// each round it takes at most 4096 turns of theirs, and fewer where another worker has taken as many or no actor moves. One that
-/// has all of them takes at most 65536.
+/// each round it takes at most 4096 turns of theirs, and fewer where another worker has taken as many or no actor moves. Where the
+/// actors moved but a few times in a row, one worker has all of them in the next round.
 pub fn run<R: Threads + Wait + Sync, G: Gate + Sync>(
     rt: &R,
     opened: Opened,
@@ -37,24 +43,40 @@ pub fn run<R: Threads + Wait + Sync, G: Gate + Sync>(
         mut actors,
         logs,
     } = opened;
-    let size = actors.len().div_ceil(workers as usize).max(1);
+    let mut most = TURNS_TRIED;
+    let mut pays = true;
     for _round in rt.forever() {
         if are_finished(&actors) {
             break;
         }
-        take_round(rt, &shared, &mut actors, size, gate);
+        let size = share_of(actors.len(), workers, pays);
+        pays = take_round(rt, &shared, &mut actors, size, most, gate);
+        most = TURNS;
     }
     end(shared, pass, actors, logs)
 }
 
-// A round: each worker takes turns of its actors.
+// How many of so many actors a worker has: its share, or all where it doesn't pay to share them.
+fn share_of(count: usize, workers: u32, pays: bool) -> usize
+    requires { 1 ≤ workers }
+    ensures { 0 < result }
+{
+    if pays {
+        count.div_ceil(workers as usize).max(1)
+    } else {
+        count.max(1)
+    }
+}
+
+// A round: each worker takes so many turns of its actors at most. The answer is whether it pays to share them.
 fn take_round<R: Threads + Sync, G: Gate + Sync>(
     rt: &R,
     shared: &Shared,
     actors: &mut [Actor],
     size: usize,
+    most: u32,
     gate: &G,
-)
+) -> bool
     requires size { 0 < size }
     requires actors { AreActors shared.now actors.old }
     ensures actors { AreActors shared.now actors.new }
@@ -69,36 +91,36 @@ fn take_round<R: Threads + Sync, G: Gate + Sync>(
             requires { (0 < length chunk.old) × All (λ a. IsPassOf shared.now a.pass) chunk.old }
             ensures { AreSame shared.entry.now chunk.entry.now chunk.exit.now }
         {
-            take_turns(shared, chunk, gate, &round);
+            take_turns(shared, chunk, most, gate, &round);
         },
     );
+    round.pays()
 }
 
-// As many turns of these actors as the round has at most, one after the other and over again, until it is over.
-fn take_turns<G: Gate>(shared: &Shared, chunk: &mut [Actor], gate: &G, round: &Round)
+// So many turns of these actors at most, one after the other and over again, until the round is over.
+fn take_turns<G: Gate>(shared: &Shared, chunk: &mut [Actor], most: u32, gate: &G, round: &Round)
     requires some { 0 < length chunk.old }
     requires own { All (λ a. IsPassOf shared.now a.pass) chunk.old }
     ensures same { AreSame shared.now chunk.old chunk.new }
 {
-    let most = round.most_turns();
     let mut turns = 0;
     let mut at = 0;
     let mut waiting = Waiting::default();
-    while turns + IN_A_ROW <= most && !waiting.is_over {
+    while IN_A_ROW <= most - turns && !waiting.is_over {
         if at == chunk.len() {
             at = 0;
             waiting.look(round);
         }
-        let taken = turns_in_a_row(shared, &mut chunk[at], gate, round);
-        waiting.note(taken);
+        let taken = turns_in_a_row(shared, &mut chunk[at], gate);
+        waiting.note(taken - 1, round);
         turns += taken;
         at += 1;
     }
     round.end();
 }
 
-// Turns of one actor as long as it moves, and how many they were.
-fn turns_in_a_row<G: Gate>(shared: &Shared, actor: &mut Actor, gate: &G, round: &Round) -> u32
+// Turns of one actor as long as it moves, and one more than it moved.
+fn turns_in_a_row<G: Gate>(shared: &Shared, actor: &mut Actor, gate: &G) -> u32
     requires own { IsPassOf shared.now actor.old.pass }
     ensures same { IsSame shared.now actor.old actor.new }
     ensures some { (1 ≤ result) × (result ≤ 64) }
@@ -107,7 +129,6 @@ fn turns_in_a_row<G: Gate>(shared: &Shared, actor: &mut Actor, gate: &G, round: 
         if actor.turn(shared, gate) != Ran::Turned(Turned::Moved) {
             return turns;
         }
-        round.moved();
     }
     IN_A_ROW
 }

@@ -1,17 +1,15 @@
 //! What the workers of a round see of one another, and how one of them waits.
-ghost use Rattle.std.specs.Prelude.{◌≤◌};
-
 use std::sync::atomic::{AtomicBool, AtomicU64, Ordering};
 use std::thread;
 
-/// How many turns a worker takes at most until all workers meet.
-const TURNS: u32 = 4096;
-
-/// The same of a worker that has all actors: it meets nobody.
-const TURNS_ALONE: u32 = 65536;
-
 /// How often in a row a worker goes over its actors, while no actor of any worker moves, until the round is over.
 const STILL: u32 = 128;
+
+/// The same of a worker that is alone: nobody else could move one of them.
+const STILL_ALONE: u32 = 1;
+
+/// How many moves an actor has to make in a row on average, so that it pays to share the actors.
+const WORTH: u64 = 8;
 
 /// How often a worker yields at most after it went over its actors.
 const YIELDS: u32 = 32;
@@ -21,6 +19,8 @@ const YIELDS: u32 = 32;
 pub struct Round {
     /// How many turns in which its actor moved there were.
     moves: AtomicU64,
+    /// How many times an actor took such turns, one or several in a row.
+    visits: AtomicU64,
     /// Whether a worker has ended it.
     over: AtomicBool,
     /// Whether one worker has all actors.
@@ -32,21 +32,23 @@ impl Round {
     pub fn new(is_alone: bool) -> Self {
         Self {
             moves: AtomicU64::new(0),
+            visits: AtomicU64::new(0),
             over: AtomicBool::new(false),
             is_alone,
         }
     }
 
-    /// How many turns each of its workers takes at most.
-    pub(crate) fn most_turns(&self) -> u32
-        ensures { result ≤ 65536 }
-    {
-        if self.is_alone { TURNS_ALONE } else { TURNS }
+    /// An actor moved so many times in a row.
+    pub fn moved(&self, turns: u32) {
+        self.moves.fetch_add(u64::from(turns), Ordering::Relaxed);
+        self.visits.fetch_add(1, Ordering::Relaxed);
     }
 
-    /// An actor moved.
-    pub fn moved(&self) {
-        self.moves.fetch_add(1, Ordering::Relaxed);
+    /// Whether its actors moved so often in a row that it pays to share them among several workers. Where each waits
+    /// for another after a turn or two, it takes them longer to hear of one another than to move.
+    pub fn pays(&self) -> bool {
+        let visits = self.visits.load(Ordering::Relaxed);
+        0 < visits && visits <= self.moves.load(Ordering::Relaxed) / WORTH
     }
 
     /// Ends the round for all workers: each ends it once it has gone over its actors.
@@ -82,7 +84,8 @@ impl Waiting {
             0
         };
         self.seen = moves;
-        self.is_over = STILL <= self.still || round.over.load(Ordering::Relaxed);
+        let most = if round.is_alone { STILL_ALONE } else { STILL };
+        self.is_over = most <= self.still || round.over.load(Ordering::Relaxed);
     }
 
     // Yields, and once more the next time.
@@ -93,10 +96,11 @@ impl Waiting {
         self.yields = self.yields.saturating_add(1).min(YIELDS);
     }
 
-    /// An actor of its own took so many turns, of which only the last may be without a move.
-    pub fn note(&mut self, taken: u32) {
-        if 1 < taken {
+    /// An actor of its own moved so many times in a row.
+    pub fn note(&mut self, moves: u32, round: &Round) {
+        if 0 < moves {
             self.yields = 0;
+            round.moved(moves);
         }
     }
 }
