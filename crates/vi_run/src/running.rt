@@ -21,12 +21,12 @@ const IN_A_ROW: u32 = 64;
 /// How many turns a worker takes at most until all workers meet.
 const TURNS: u32 = 4096;
 
-/// The same in the first round, which shows whether it pays to share the actors.
-const TURNS_TRIED: u32 = 128;
+/// The same where it doesn't pay to share the actors, or isn't known yet: soon the round before will have shown it.
+const FEWEST_TURNS: u32 = 128;
 
 /// Runs all actors on 1 to 16 workers until every line is finished, and joins their passes. Each worker has some of the actors; in
 /// each round it takes at most 4096 turns of theirs, and fewer where another worker has taken as many or no actor moves. Where the
-/// actors moved but a few times in a row, one worker has all of them in the next round.
+/// actors moved but a few times in a row, one worker has all of them in the next round, which is short.
 pub fn run<R: Threads + Wait + Sync, G: Gate + Sync>(
     rt: &R,
     opened: Opened,
@@ -43,7 +43,7 @@ pub fn run<R: Threads + Wait + Sync, G: Gate + Sync>(
         mut actors,
         logs,
     } = opened;
-    let mut most = TURNS_TRIED;
+    let mut most = FEWEST_TURNS;
     let mut pays = true;
     for _round in rt.forever() {
         if are_finished(&actors) {
@@ -51,7 +51,7 @@ pub fn run<R: Threads + Wait + Sync, G: Gate + Sync>(
         }
         let size = share_of(actors.len(), workers, pays);
         pays = take_round(rt, &shared, &mut actors, size, most, gate);
-        most = TURNS;
+        most = next_turns(most, pays);
     }
     end(shared, pass, actors, logs)
 }
@@ -65,6 +65,15 @@ fn share_of(count: usize, workers: u32, pays: bool) -> usize
         count.div_ceil(workers as usize).max(1)
     } else {
         count.max(1)
+    }
+}
+
+// How many turns the next round has: as long as it pays to share the actors, twice as many.
+fn next_turns(turns: u32, pays: bool) -> u32 {
+    if pays {
+        turns.saturating_mul(2).min(TURNS)
+    } else {
+        FEWEST_TURNS
     }
 }
 
