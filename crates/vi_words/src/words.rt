@@ -1,5 +1,5 @@
 //! The lines of a text and the words of a line, one after another, where they stand in the text.
-ghost use Rattle.std.specs.Prelude.{◌≡◌, ◌==◌, ◌<◌, [], ◌∷◌, length, not, position, IfSome, MatchOption};
+ghost use Rattle.std.specs.Prelude.{◌≡◌, ◌==◌, ◌<◌, ◌&&◌, nat_le, [], ◌∷◌, length, not, position, IfSome, MatchOption};
 ghost use Rattle.vi_words.specs.Words.{lines_of_text, words_of, is_word, is_comment, says_nothing, has_bad_byte};
 
 use std::marker::Model;
@@ -127,7 +127,18 @@ pub fn is_word(word: &[u8], text: &[u8]) -> bool
 pub fn has_bad_byte(line: &[u8]) -> bool
     ensures { result ≡ has_bad_byte line.now }
 {
-    line.iter().any(|byte| !(32 <= *byte && *byte <= 126))
+    let mut bad = false;
+    // No way out before the end, so that a compiler may look at many bytes at a time.
+    for byte in line {
+        bad |= is_bad(*byte);
+    }
+    bad
+}
+
+fn is_bad(byte: u8) -> bool
+    ensures { result ≡ not (nat_le 32 byte && nat_le byte 126) }
+{
+    !(32 <= byte && byte <= 126)
 }
 
 /// Whether a line says nothing: it has no words, or the first begins with `#`.
