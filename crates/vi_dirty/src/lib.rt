@@ -9,8 +9,9 @@
 //! - `replicas_follow` does nothing; its contract says that a replica has the memory of the device.
 //!
 //! # Example
-//! A test of `tests_device` runs this:
+//! A test of `tests_device` runs this. The law in front gives what `follow` asks for:
 //! ```
+//! replicas_follow();
 //! tracker.feed(call, entry);
 //! let pages = replica.follow(alloc, tracker)?;
 //! Ok(pages)

@@ -33,7 +33,9 @@ asked (call.Bypass on) = None
 asked (call.Read endpoint part) = None
 asked (call.Write endpoint part bytes) = None
 
--- the call is an access of this endpoint whose part begins at this address
+-- The call is an access of this endpoint whose part begins at this address. A part lies in one page and is translated at its
+-- first address; a mapping is whole pages, and an UNMAP with OK cuts none. So a part that has a byte of a removed mapping
+-- begins in the UNMAP's range.
 abbrev pub Accesses : ℕ → ℕ → Call → Type 0
 Accesses endpoint address (call.Ask request) = ⊥
 Accesses endpoint address (call.Raw read write) = ⊥
