@@ -118,6 +118,17 @@ for form in 'viommu one' 'viommu run W' 'viommu sim S T' 'viommu check' 'viommu 
   has 'help: each form' "$(cat "$room/out")" "$form"
 done
 
+# A build by itself, which leaves nothing behind.
+mkdir "$room/scratch"
+TMPDIR=$room/scratch call build
+same 'build: the status' "$status" 0
+same 'build: nothing is written' "$out" ''
+has 'build: a line at its end' "$said" 'viommu: built in '
+same 'build: nothing is left behind' "$(ls "$room/scratch")" ''
+TMPDIR=$room/scratch call try one <<< 'memory 1'
+same 'try: nothing is left behind' "$(ls "$room/scratch")" ''
+fresh_copy
+
 # The first call builds, the second doesn't.
 call run 4 <<< 'memory 1'
 same 'first call: the status' "$status" 0
