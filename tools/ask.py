@@ -25,7 +25,7 @@ DOCUMENT = os.path.join(os.path.dirname(os.path.abspath(__file__)), "..", "docs"
 
 
 UNBUILT = "isn't built from these sources"
-WANTED = "PROGRAM is ./viommu, once `./viommu build` has proved and built it, in about 20 minutes on 4 processors"
+WANTED = "PROGRAM is ./viommu, once `./viommu build` has proved and built it, in about 21 minutes on 4 processors"
 
 
 class Unusable(Exception):
